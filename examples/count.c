@@ -1,41 +1,29 @@
 /* Shows what a .drc file has: the counts, and the least and greatest position of its points.
    usage: count FILE
-   build: cc -std=c99 -I include examples/count.c out/lib/libdrc.a -o count */
+   build: cc -std=c99 -I include examples/count.c out/lib/libdrc.a -lm -o count */
 #include <drc.h>
 #include <stdio.h>
-#include <string.h>
 
-/* The float of a bit pattern. */
-static float float_of(uint32_t pattern) {
-    float value;
-    memcpy(&value, &pattern, sizeof value);
-    return value;
-}
-
-/* What integer `i` of a component stands for: itself, unless it is quantised. */
-static double value_of(const drc_head *head, int component, int32_t i) {
-    if (head->dtype != 9) return i;
-    return float_of(head->min[component]) + i * (double)float_of(head->range) / ((1u << head->bits) - 1);
-}
-
-/* Writes the least and the greatest value of each component of the first position. */
-static void show_box(const drc_geometry *geometry) {
-    const drc_shape *shape = &geometry->shape;
-    uint32_t from = 0;
-    for (uint32_t k = 0; k < shape->attributes; from += shape->heads[k].comps, k++) {
-        const drc_head *head = &shape->heads[k];
-        if (head->usage != 0) continue;
-        for (int j = 0; j < head->comps && shape->points != 0; j++) {
-            int32_t least = geometry->values[from + j], greatest = least;
-            for (size_t p = 1; p < shape->points; p++) {
-                int32_t value = geometry->values[p * shape->width + from + j];
-                if (value < least) least = value;
-                if (value > greatest) greatest = value;
-            }
-            printf("component %d from %g to %g\n", j, value_of(head, j, least), value_of(head, j, greatest));
+/* Writes the least and the greatest float of each component of the first position: DRC_DONE, or DRC_NO_MEMORY. */
+static uint32_t show_box(const drc_geometry *geometry) {
+    const size_t points = geometry->shape.points;
+    uint32_t number;
+    if (points == 0 || drc_attribute(&geometry->shape, DRC_USAGE_POSITION, DRC_ANY, &number, NULL) != DRC_DONE) return DRC_DONE;
+    const size_t count = drc_float_count(&geometry->shape.heads[number]), room = points * count;
+    float *floats = (float *)malloc(room * sizeof *floats);
+    if (floats == NULL) return DRC_NO_MEMORY;
+    uint32_t status = drc_floats(geometry, number, floats, room, 0);
+    for (size_t j = 0; status == DRC_DONE && j < count; j++) {
+        float least = floats[j], greatest = least;
+        for (size_t p = 1; p < points; p++) {
+            const float value = floats[p * count + j];
+            if (value < least) least = value;
+            if (value > greatest) greatest = value;
         }
-        return;
+        printf("component %d from %g to %g\n", (int)j, (double)least, (double)greatest);
     }
+    free(floats);
+    return status;
 }
 
 /* All bytes of a file, with their number; NULL where they can't be read. */
@@ -70,7 +58,7 @@ int main(int count, char **words) {
     }
     drc_geometry geometry;
     drc_fault fault;
-    uint32_t status = drc_decode(bytes, length, &geometry, &fault);
+    uint32_t status = drc_decode(bytes, length, 3, &geometry, &fault);
     free(bytes);
     if (status == DRC_REFUSED) {
         char name[DRC_NAME_ROOM];
@@ -80,7 +68,7 @@ int main(int count, char **words) {
     if (status != DRC_DONE) return (int)status;
     printf("%s of %u points, %u faces and %u attributes\n", geometry.shape.mesh ? "mesh" : "cloud",
            (unsigned)geometry.shape.points, (unsigned)geometry.shape.faces, (unsigned)geometry.shape.attributes);
-    show_box(&geometry);
+    status = show_box(&geometry);
     drc_free(&geometry);
-    return 0;
+    return (int)status;
 }

@@ -9,8 +9,12 @@ by the C library libdrc.
     mesh.attribute("position")       # the attribute of this usage
     mesh.attributes[0].floats()      # (N, C) float32: what the integers stand for
     stream, renumbering = drc.encode(mesh, method="valence")
+    drc.decode(data, profile=3)      # with octahedral normals, as Google's draco writes them
+    drc.encode(mesh, predict="shape", profile=3)    # normals and texture coordinates predicted from positions
 
 decode        bytes to a Geometry
+declared      what the bytes of a stream declare, before they are decoded
+info          the report of a stream
 encode        a Geometry to bytes, and the Renumbering of its faces or points
 recode        a stream coded in another way
 restore       a stream with its faces in the order that they had before they were encoded
@@ -20,18 +24,22 @@ Geometry      faces and attributes
 Attribute     the integers of each point, and what they are; Attribute.quantised makes one of floats
 Quantisation  how integers stand for floats
 Renumbering   which face of what was encoded each face of a stream is
+Declared      what declared answers
 Verdict       what verify answers
 Refused       what is raised where bytes or arrays have a fault: its kind and its place
+
+A stream is read and written in a profile, 2 where no other is named. In profile 3 it may have octahedral normals, and normals and
+texture coordinates that are predicted from positions, which are refused in profile 2. What is read in 2 means the same in 3.
 
 All arrays are numpy's and own their memory. Calls may be made on any number of threads: nothing is kept
 between them, and other threads run while the library works. What a call reads may not be changed meanwhile.
 
 The library is looked for at the first call: the file that the environment variable DRC_LIBRARY names; else
 libdrc.so beside this file; else what ./build-library put into the folder out/ of the repository; else where
-the system's loader looks for libdrc.so.1. ImportError is raised where it isn't found.
+the system's loader looks for libdrc.so.2. ImportError is raised where it isn't found, or is of an earlier version.
 
-Beside Refused a call may raise MemoryError, TypeError or ValueError for arguments that are none, and NotImplementedError
-where the library is of an earlier version, without the call.
+Beside Refused a call may raise MemoryError, and TypeError or ValueError for arguments that are none. What only a later library has
+comes by its number: a type of values, a usage, a verdict.
 """
 import ctypes
 import functools
@@ -45,11 +53,12 @@ from typing import Dict, List, Optional, Tuple, Union
 
 import numpy as np
 
-__all__ = ["decode", "encode", "recode", "restore", "verify", "version"]
-__all__ += ["Attribute", "Geometry", "Quantisation", "Refused", "Renumbering", "Verdict"]
+__all__ = ["decode", "declared", "info", "encode", "recode", "restore", "verify", "version"]
+__all__ += ["Attribute", "Declared", "Geometry", "Quantisation", "Refused", "Renumbering", "Verdict"]
 __all__ += ["POSITION", "NORMAL", "COLOUR", "TEXTURE", "GENERIC"]
 
 POSITION, NORMAL, COLOUR, TEXTURE, GENERIC = range(5)
+_PROFILES = (2, 3)
 _USAGES = ("position", "normal", "colour", "texture", "generic")
 _Bytes = Union[bytes, bytearray, memoryview, mmap.mmap, np.ndarray]
 
@@ -111,12 +120,15 @@ class Attribute:
     """What each point has of one kind: a position, a colour, a label.
 
     values          (N, C) integers: int8, uint8, int16, uint16, int32 or uint32 (up to 2^31 - 1), and int32 where
-                    they are quantised; C is 1 to 8. Integers of 64 bits, which numpy makes of lists, are taken as
-                    int32 where all of them fit
+                    they are quantised or octahedral; C is 1 to 8. Integers of 64 bits, which numpy makes of lists, are
+                    taken as int32 where all of them fit
     usage           POSITION, NORMAL, COLOUR, TEXTURE or GENERIC
     id              the attribute's own number, carried as it is
     normalized      carried as it is; 1 says that integers stand for fractions of the greatest of their type
     quantisation    a Quantisation where the integers stand for floats on a grid, else None
+    octahedral_bits 2 to 30 where the integers stand for unit vectors: C is 2, and both are 0 to 2^octahedral_bits - 2,
+                    coordinates in the square of the unfolded octahedron; else 0. Only a stream of profile 3 has such
+    other_type      the number of a data type that only a later library has, whose values are int32 here; else None
     """
 
     values: np.ndarray
@@ -124,6 +136,8 @@ class Attribute:
     id: int = 0
     normalized: int = 0
     quantisation: Optional[Quantisation] = None
+    octahedral_bits: int = 0
+    other_type: Optional[int] = None
 
     @property
     def name(self) -> str:
@@ -137,19 +151,25 @@ class Attribute:
 
     @property
     def type(self) -> str:
-        """The word of the data type that a stream declares: that of the values, 'float32' where they are quantised."""
-        return "float32" if self.quantisation else _declared(np.asarray(self.values).dtype).name
+        """The word of the data type that a stream declares: that of the values, 'float32' where they are quantised or octahedral; of
+        another type the number."""
+        if self.other_type is not None:
+            return str(self.other_type)
+        return "float32" if self.quantisation or self.octahedral_bits else _declared(np.asarray(self.values).dtype).name
 
     def floats(self) -> np.ndarray:
         """What the integers stand for, (N, C) float32.
 
-        Where they are quantised: steps of their grid, computed in 32 bits as `draco_decoder` does. Others stand for themselves, and
-        divided by the greatest of their type where they are normalized."""
+        Where they are quantised: steps of their grid, computed in 32 bits as `draco_decoder` does. Where they are octahedral: unit
+        vectors, (N, 3), computed as it does. Others stand for themselves, and divided by the greatest of their type where they are
+        normalized."""
         values = np.asarray(self.values)
         floats = values.astype(np.float32)
         if self.quantisation:
             with np.errstate(all="ignore"):
                 return floats * _step(self.quantisation) + np.asarray(self.quantisation.minima, np.float32)
+        if self.octahedral_bits:
+            return _unit_vectors(floats, self.octahedral_bits)
         return floats / np.float32(np.iinfo(_declared(values.dtype)).max) if self.normalized else floats
 
     @classmethod
@@ -166,7 +186,8 @@ class Attribute:
         return cls(numbers.astype(np.int64).astype(np.int32), usage, id, 0, grid)
 
     def __repr__(self) -> str:
-        bits = f" in {self.quantisation.bits} bits" if self.quantisation else ""
+        grid, square = self.quantisation, self.octahedral_bits
+        bits = f" in {grid.bits} bits" if grid else f" in an octahedron of {square} bits" if square else ""
         return f"<Attribute {self.name}: {len(self.values)} points of {self.components} {self.type}{bits}, id {self.id}>"
 
 
@@ -242,10 +263,24 @@ class Renumbering:
 
 
 @dataclass(frozen=True)
+class Declared:
+    """What a stream declares before its data.
+
+    of_mesh    True for a mesh, False for a cloud
+    faces      how many faces it has; 0 of a cloud
+    points     how many points it has; of a mesh by Edgebreaker how many vertices, of which seams make more points
+    """
+
+    of_mesh: bool
+    faces: int
+    points: int
+
+
+@dataclass(frozen=True)
 class Verdict:
     """What verify answers. It is true, as in `if drc.verify(..)`, where the stream is the geometry.
 
-    kind    'same'; else the first that applies of
+    kind    'same'; else, where no later library has another, the first that applies of
             'heads': the attributes differ in what they are, or stream, geometry and renumbering aren't all of meshes or all of clouds
             'rows': stream, geometry and renumbering haven't as many faces (points of clouds)
             'row': a row of the renumbering is wrong: it names no face or one that an earlier row names, its turn can't be, or a corner
@@ -270,15 +305,51 @@ def version() -> int:
     return _library().drc_version()
 
 
-def decode(data: _Bytes) -> Geometry:
+def declared(data: _Bytes, profile: int = 2) -> Declared:
+    """What the bytes of a stream declare, before they are decoded: this takes no memory and no time. Refused has the first fault of the
+    header or of the declared numbers, which is the stream's first."""
+    library, shape, fault, profile = _library(), _Shape(), _Fault(), _profile(profile)
+    data = np.frombuffer(data, np.uint8)
+    _check(library.drc_declared(data.ctypes.data, data.size, profile, ctypes.byref(shape), ctypes.byref(fault)), fault)
+    return Declared(bool(shape.mesh), shape.faces, shape.points)
+
+
+def info(data: _Bytes, profile: int = 2) -> str:
+    """The report of a stream, as `drc info` writes it: its form, where its parts stand, how many things it has, and its attributes."""
+    library, text, fault, profile = _library(), _Text(), _Fault(), _profile(profile)
+    data = np.frombuffer(data, np.uint8)
+    _check(library.drc_info(data.ctypes.data, data.size, profile, ctypes.byref(text), ctypes.byref(fault)), fault)
+    try:
+        return ctypes.string_at(text.bytes, text.length).decode()
+    finally:
+        library.free(text.bytes)
+
+
+def decode(
+    data: _Bytes,
+    profile: int = 2,
+    *,
+    most_faces: Optional[int] = None,
+    most_points: Optional[int] = None,
+    most_values: Optional[int] = None,
+) -> Geometry:
     """The Geometry that the bytes of a stream mean: exactly that, or Refused with their first fault, as `drc dec` says it; but
     streams of any length are read, here and by the other calls.
 
+    `profile` is 2 or 3, here and in the other calls, and ValueError is raised where it is neither. In 3 a stream may have
+    octahedral normals, and normals and texture coordinates that are predicted from positions, as Google's draco writes them.
+
     `data` is anything that has a buffer of bytes: bytes, bytearray, memoryview, mmap, an array of uint8. Bytes after the
-    stream's end are ignored. Points, faces and attributes have the order of `drc dec`."""
-    library, geometry, fault = _library(), _Geometry(), _Fault()
+    stream's end are ignored. Points, faces and attributes have the order of `drc dec`.
+
+    `most_faces`, `most_points` and `most_values` are limits of the caller, 1 or more; values are the integers of all points. Refused is
+    raised with `FaceLimit`, `PointLimit` or `ValueLimit` at the number that is too great: by the numbers that the stream declares before
+    memory is taken, and by those of its geometry once it is decoded."""
+    library, geometry, fault, profile = _library(), _Geometry(), _Fault(), _profile(profile)
+    limits = _Limits(_limit("most_faces", most_faces), _limit("most_points", most_points), _limit("most_values", most_values))
     data = np.frombuffer(data, np.uint8)
-    status = library.drc_decode(data.ctypes.data, data.size, ctypes.byref(geometry), ctypes.byref(fault))
+    parts = (data.ctypes.data, data.size, profile, ctypes.byref(limits))
+    status = library.drc_decode_within(*parts, ctypes.byref(geometry), ctypes.byref(fault))
     _check(status, fault)
     try:
         return _geometry_of(geometry)
@@ -295,6 +366,7 @@ def encode(
     predict: Optional[str] = None,
     walk: Optional[str] = None,
     plain_values: bool = False,
+    profile: int = 2,
 ) -> Tuple[bytes, Renumbering]:
     """The stream of a Geometry, as bytes, and its Renumbering; or Refused with the first fault of the arrays, then of the
     encoding, as `drc enc` says it.
@@ -303,13 +375,16 @@ def encode(
 
     method          'seq', 'eb' or 'valence'; a mesh is coded by 'eb' where nothing is chosen, a cloud by 'seq'
     index           'plain' or 'packed' indices, of a mesh by 'seq' alone
-    predict         'none', 'diff', 'para' or 'multi': how values are predicted
+    predict         'none', 'diff', 'para' or 'multi': how values are predicted; in profile 3 also 'shape', from positions: octahedral
+                    attributes by normals of faces, texture coordinates by a projection, all others by a parallelogram
     walk            'depth' or 'degree': the order of values, not by 'seq'
     plain_values    True: values as they are, and not in symbol blocks
+    profile         2 or 3: that in which the stream is read again. In profile 2 octahedral attributes are refused, `Octahedral` at the
+                    number of the first
 
     Faces may be of any type of integers; a number that is no point is refused, `IndexRange` at its face. TypeError where values
     aren't of the types that Attribute names, ValueError where integers of 64 bits don't fit 32."""
-    options = _options(method, index, predict, walk, plain_values)
+    options = _options(method, index, predict, walk, plain_values, profile)
     heads, values, corners = _heads(geometry.attributes), _values(geometry.attributes), _corners(geometry)
     library, stream, fault, of_mesh = _library(), _Stream(), _Fault(), geometry.faces is not None
     parts = (heads, len(heads), corners.ctypes.data, len(corners), values.ctypes.data, values.size)
@@ -326,45 +401,47 @@ def recode(
     predict: Optional[str] = None,
     walk: Optional[str] = None,
     plain_values: bool = False,
+    profile: int = 2,
 ) -> Tuple[bytes, Renumbering]:
     """The bytes of a stream that means the geometry of the stream `data`, coded as chosen by the options of encode, and the
-    Renumbering from the new stream to the old one; or Refused with the first fault of the old stream, else of the encoding."""
-    options = _options(method, index, predict, walk, plain_values)
-    call, stream, fault, data = _later("drc_recode"), _Stream(), _Fault(), np.frombuffer(data, np.uint8)
-    status = call(data.ctypes.data, data.size, ctypes.byref(options), ctypes.byref(stream), ctypes.byref(fault))
+    Renumbering from the new stream to the old one; or Refused with the first fault of the old stream, else of the encoding.
+    The old stream is read in the profile too."""
+    options = _options(method, index, predict, walk, plain_values, profile)
+    library, stream, fault, data = _library(), _Stream(), _Fault(), np.frombuffer(data, np.uint8)
+    status = library.drc_recode(data.ctypes.data, data.size, ctypes.byref(options), ctypes.byref(stream), ctypes.byref(fault))
     _check(status, fault)
-    return _taken(_library(), stream, bool(data[_KIND_PLACE] == _MESH))
+    return _taken(library, stream, bool(data[_KIND_PLACE] == _MESH))
 
 
-def restore(data: _Bytes, renumbering: Renumbering) -> bytes:
+def restore(data: _Bytes, renumbering: Renumbering, *, profile: int = 2) -> bytes:
     """The bytes of a sequential stream that has the faces (of a cloud the points) of the stream `data` in the order that they had
     before they were encoded, each face beginning with its first corner; the renumbering is the one that came with `data`.
 
     Refused has the first fault of the stream, then of the renumbering (`MapKind`, `MapCount`, `BadMap` at its row), then of the
     encoding. The points of a mesh keep the numbers that they have in `data`."""
-    call, stream, fault, data = _later("drc_restore"), _Stream(), _Fault(), np.frombuffer(data, np.uint8)
+    library, stream, fault, data = _library(), _Stream(), _Fault(), np.frombuffer(data, np.uint8)
     rows = _numbers("rows", renumbering.rows, 2)
-    parts = (rows.ctypes.data, len(rows), data.ctypes.data, data.size)
-    status = call(bool(renumbering.of_mesh), *parts, ctypes.byref(stream), ctypes.byref(fault))
+    parts = (rows.ctypes.data, len(rows), data.ctypes.data, data.size, _profile(profile))
+    status = library.drc_restore(bool(renumbering.of_mesh), *parts, ctypes.byref(stream), ctypes.byref(fault))
     _check(status, fault)
-    return _taken(_library(), stream, renumbering.of_mesh)[0]
+    return _taken(library, stream, renumbering.of_mesh)[0]
 
 
-def verify(data: _Bytes, geometry: Geometry, renumbering: Renumbering, *, surface: bool = False) -> Verdict:
+def verify(data: _Bytes, geometry: Geometry, renumbering: Renumbering, *, surface: bool = False, profile: int = 2) -> Verdict:
     """A Verdict: whether the stream `data` means a Geometry by a Renumbering, with the same integers in the same corners and the same
     attributes; with `surface` also whether sides are glued in it as in that mesh. Of what encoding uses it uses, with `surface`, how a mesh is
     paired and how pairs are renumbered, and nothing else.
 
     Refused has the first fault of the arrays, then of the stream, then with `surface` why there is no surface to compare."""
-    call, verdict, fault, data = _later("drc_verify"), _Verdict(), _Fault(), np.frombuffer(data, np.uint8)
+    library, verdict, fault, data = _library(), _Verdict(), _Fault(), np.frombuffer(data, np.uint8)
     heads, values, corners = _heads(geometry.attributes), _values(geometry.attributes), _corners(geometry)
     rows, of_mesh = _numbers("rows", renumbering.rows, 2), geometry.faces is not None
     arrays = (heads, len(heads), corners.ctypes.data, len(corners), values.ctypes.data, values.size, rows.ctypes.data, len(rows))
-    outs = (ctypes.byref(verdict), ctypes.byref(fault))
-    status = call(of_mesh, *arrays, data.ctypes.data, data.size, bool(surface), *outs)
+    stream = (data.ctypes.data, data.size, _profile(profile), bool(surface))
+    status = library.drc_verify(of_mesh, *arrays, *stream, ctypes.byref(verdict), ctypes.byref(fault))
     if status != _NOT_SAME:
         _check(status, fault)
-    return Verdict(_VERDICTS[verdict.kind], verdict.at) if bool(renumbering.of_mesh) == of_mesh else Verdict("heads", 0)
+    return Verdict(_verdict_word(verdict.kind), verdict.at) if bool(renumbering.of_mesh) == of_mesh else Verdict("heads", 0)
 
 
 # The calls and structs of include/drc.h.
@@ -378,6 +455,8 @@ class _Head(ctypes.Structure):
         ("normalized", ctypes.c_uint8),
         ("id", ctypes.c_uint32),
         ("bits", ctypes.c_uint8),
+        ("octahedral_bits", ctypes.c_uint8),
+        ("spare", ctypes.c_uint16),
         ("range", ctypes.c_uint32),
         ("min", ctypes.c_uint32 * 8),
     ]
@@ -391,12 +470,21 @@ class _Geometry(ctypes.Structure):
     _fields_ = [("shape", _Shape), ("corners", ctypes.c_void_p), ("values", ctypes.c_void_p)]
 
 
+class _Limits(ctypes.Structure):
+    _fields_ = [(name, ctypes.c_uint32) for name in ("faces", "points", "values", "spare")]
+
+
+class _Text(ctypes.Structure):
+    _fields_ = [("length", ctypes.c_size_t), ("bytes", ctypes.c_void_p)]
+
+
 class _Fault(ctypes.Structure):
     _fields_ = [("kind", ctypes.c_uint32), ("at", ctypes.c_uint64)]
 
 
 class _Options(ctypes.Structure):
-    _fields_ = [(name, ctypes.c_uint32) for name in ("method", "index", "predict", "walk", "plain_values")]
+    _fields_ = [(name, ctypes.c_uint32) for name in ("method", "index", "predict", "walk", "plain_values", "profile")]
+    _fields_ += [("spare", ctypes.c_uint32 * 2)]
 
 
 class _Lengths(ctypes.Structure):
@@ -416,28 +504,28 @@ _ARRAY = [_POINTER, _SIZE]
 _CALLS = {
     "drc_version": [],
     "drc_fault_name": [_NUMBER, ctypes.c_char_p, _SIZE],
-    "drc_decode": [*_ARRAY, _POINTER, _POINTER],
+    "drc_declared": [*_ARRAY, _NUMBER, _POINTER, _POINTER],
+    "drc_decode_within": [*_ARRAY, _NUMBER, _POINTER, _POINTER, _POINTER],
+    "drc_info": [*_ARRAY, _NUMBER, _POINTER, _POINTER],
     "drc_encode": [_NUMBER, *_ARRAY, *_ARRAY, *_ARRAY, _POINTER, _POINTER, _POINTER],
-}
-_LATER_CALLS = {  # of version 2
     "drc_recode": [*_ARRAY, _POINTER, _POINTER, _POINTER],
-    "drc_restore": [_NUMBER, *_ARRAY, *_ARRAY, _POINTER, _POINTER],
-    "drc_verify": [_NUMBER, *_ARRAY, *_ARRAY, *_ARRAY, *_ARRAY, *_ARRAY, _NUMBER, _POINTER, _POINTER],
+    "drc_restore": [_NUMBER, *_ARRAY, *_ARRAY, _NUMBER, _POINTER, _POINTER],
+    "drc_verify": [_NUMBER, *_ARRAY, *_ARRAY, *_ARRAY, *_ARRAY, *_ARRAY, _NUMBER, _NUMBER, _POINTER, _POINTER],
 }
-_VERSION = 1
-_NAME_ROOM = 13
-_DONE, _REFUSED, _NO_MEMORY, _NOT_SAME = 0, 2, 5, 6
+_VERSION = 3
+_NAME_ROOM = 32
+_DONE, _REFUSED, _NO_MEMORY, _NOT_SAME, _NO_ROOM = 0, 2, 5, 6, 8
 _KIND_PLACE, _MESH = 7, 1  # the byte of a stream that says what it is, and that of a mesh
 _VERDICTS = ("same", "heads", "rows", "row", "pair")
 _WORDS = {
     "method": {"seq": 1, "eb": 2, "valence": 3},
     "index": {"plain": 1, "packed": 2},
-    "predict": {"none": 1, "diff": 2, "para": 3, "multi": 4},
+    "predict": {"none": 1, "diff": 2, "para": 3, "multi": 4, "shape": 5},
     "walk": {"depth": 1, "degree": 2},
 }
-_QUANTISED = 9
-_TYPES = {1: np.int8, 2: np.uint8, 3: np.int16, 4: np.uint16, 5: np.int32, 6: np.uint32, _QUANTISED: np.int32}
-_TYPE_NUMBERS = {np.dtype(kind): number for number, kind in _TYPES.items() if number != _QUANTISED}
+_FLOAT = 9  # floats, which are quantised or octahedral
+_TYPES = {1: np.int8, 2: np.uint8, 3: np.int16, 4: np.uint16, 5: np.int32, 6: np.uint32}
+_TYPE_NUMBERS = {np.dtype(kind): number for number, kind in _TYPES.items()}
 _MOST_ROWS = 1 << 22  # of a renumbering's text: the limits on faces and points
 
 
@@ -447,8 +535,8 @@ def _place():
     if named:
         return named
     here = pathlib.Path(__file__).resolve().parent
-    files = [folder / name for folder in (here, here.parent / "out/lib") for name in ("libdrc.so", "libdrc.so.1")]
-    return next((str(it) for it in files if it.exists()), "libdrc.so.1")
+    files = [folder / name for folder in (here, here.parent / "out/lib") for name in ("libdrc.so", "libdrc.so.2")]
+    return next((str(it) for it in files if it.exists()), "libdrc.so.2")
 
 
 @functools.lru_cache(maxsize=None)
@@ -457,33 +545,39 @@ def _library():
     place = _place()
     try:
         library = ctypes.CDLL(place)
-        for name, types in {**_CALLS, **_LATER_CALLS}.items():
-            if name in _CALLS or hasattr(library, name):
-                call = getattr(library, name)
-                call.argtypes, call.restype = types, _NUMBER
+        library.drc_version.restype = _NUMBER
+        if library.drc_version() < _VERSION:
+            raise ImportError(f"{place} has version {library.drc_version()} of the interface: version {_VERSION} is wanted")
+        for name, types in _CALLS.items():
+            call = getattr(library, name)
+            call.argtypes, call.restype = types, _NUMBER
     except (OSError, AttributeError) as why:
         raise ImportError(f"{why}: ./build-library makes libdrc.so, and the environment variable DRC_LIBRARY may name it") from why
-    if library.drc_version() < _VERSION:
-        raise ImportError(f"{place} has version {library.drc_version()} of the interface: version {_VERSION} is wanted")
     library.free = ctypes.CDLL(None).free
     library.free.argtypes, library.free.restype = [_POINTER], None
     return library
 
 
-def _later(name):
-    """A call that only a later version has."""
-    call = getattr(_library(), name, None)
-    if call is None:
-        raise NotImplementedError(f"libdrc of version {version()} has no {name}")
-    return call
+def _fault_name(kind):
+    """The word of a kind of faults; of one that the library doesn't name its number."""
+    room = _NAME_ROOM
+    while True:
+        name = ctypes.create_string_buffer(room)
+        status = _library().drc_fault_name(kind, name, room)
+        if status != _NO_ROOM:
+            return name.value.decode() if status == _DONE else str(kind)
+        room *= 2
+
+
+def _verdict_word(kind):
+    """The word of a verdict; of another one its number."""
+    return _VERDICTS[kind] if kind < len(_VERDICTS) else str(kind)
 
 
 def _check(status, fault):
     """Raises what a status says, unless it says that all is done."""
     if status == _REFUSED:
-        name = ctypes.create_string_buffer(_NAME_ROOM)
-        _library().drc_fault_name(fault.kind, name, _NAME_ROOM)
-        raise Refused(name.value.decode(), fault.at)
+        raise Refused(_fault_name(fault.kind), fault.at)
     if status == _NO_MEMORY:
         raise MemoryError("libdrc is out of memory")
     if status != _DONE:
@@ -511,14 +605,20 @@ def _geometry_of(geometry):
     table = _seen(geometry.values, (shape.points, shape.width), "<i4")
     attributes, begin = [], 0
     for head in shape.heads[: shape.attributes]:
-        values = table[:, begin : begin + head.comps].astype(_TYPES[head.dtype], order="C")
-        attributes.append(Attribute(values, head.usage, head.id, head.normalized, _quantisation_of(head)))
+        values = table[:, begin : begin + head.comps].astype(_TYPES.get(head.dtype, np.int32), order="C")
+        attributes.append(Attribute(values, head.usage, head.id, head.normalized, *_meaning_of(head)))
         begin += head.comps
     return Geometry(faces, attributes)
 
 
+def _meaning_of(head):
+    """How the integers of an attribute stand for floats: its quantisation, its octahedral bits, and the number of a type that has no name here."""
+    grid, square = _quantisation_of(head), head.octahedral_bits
+    return grid, square, None if grid or square or head.dtype in _TYPES else head.dtype
+
+
 def _quantisation_of(head):
-    if head.dtype != _QUANTISED:
+    if head.dtype != _FLOAT or not head.bits:
         return None
     floats = np.array([head.range, *head.min[: head.comps]], np.uint32).view(np.float32)
     return Quantisation(head.bits, floats[0], floats[1:].copy())
@@ -537,12 +637,31 @@ def _taken(library, stream, of_mesh):
 # To the library.
 
 
-def _options(method, index, predict, walk, plain_values):
+def _profile(number):
+    """The number of a profile."""
+    if operator.index(number) not in _PROFILES:
+        raise ValueError(f"profile is {number}: {' or '.join(map(str, _PROFILES))} is wanted")
+    return operator.index(number)
+
+
+def _limit(what, number):
+    """A limit of the caller as C has it, where 0 is none."""
+    if number is None:
+        return 0
+    if operator.index(number) < 1:
+        raise ValueError(f"{what} is {number}: it has to be 1 or more")
+    return min(operator.index(number), (1 << 32) - 1)
+
+
+def _options(method, index, predict, walk, plain_values, profile):
     chosen = {"method": method, "index": index, "predict": predict, "walk": walk}
+    profile = _profile(profile)
     for option, word in chosen.items():
         if word is not None and word not in _WORDS[option]:
             raise ValueError(f"{option} is {word!r}: one of {', '.join(_WORDS[option])} is wanted")
-    return _Options(*(_WORDS[option].get(word, 0) for option, word in chosen.items()), bool(plain_values))
+    if predict == "shape" and profile == 2:
+        raise ValueError("predict is 'shape': it is of profile 3, and the profile is 2")
+    return _Options(*(_WORDS[option].get(word, 0) for option, word in chosen.items()), bool(plain_values), profile)
 
 
 def _table(values, kind=None):
@@ -581,20 +700,25 @@ def _heads(attributes):
     heads = (_Head * len(attributes))()
     for head, it in zip(heads, attributes):
         table = _table(it.values)
-        head.dtype = _type_number(_declared(table.dtype), it.quantisation)
+        head.dtype = _type_number(_declared(table.dtype), it)
         head.usage, head.comps = _fits("usage", it.usage, 8), _fits("the number of components", table.shape[1], 8)
         head.normalized, head.id = _fits("normalized", it.normalized, 8), _fits("id", it.id, 32)
+        head.octahedral_bits = _fits("octahedral_bits", it.octahedral_bits, 8)
+        if it.quantisation and it.octahedral_bits:
+            raise ValueError("an attribute is quantised and octahedral: it has to be one of both at most")
         if it.quantisation:
             _put_quantisation(head, it.quantisation)
     return heads
 
 
-def _type_number(kind, quantisation):
-    number = _TYPE_NUMBERS.get(kind)
-    if number is None or quantisation and kind != np.int32:
-        wanted = "int32" if quantisation else ", ".join(it.name for it in _TYPE_NUMBERS)
+def _type_number(kind, attribute):
+    """The number of the data type that a stream declares of an attribute with values of this type."""
+    number, of_floats = _TYPE_NUMBERS.get(kind), bool(attribute.quantisation or attribute.octahedral_bits)
+    is_other = attribute.other_type is not None
+    if number is None or (of_floats or is_other) and kind != np.int32:
+        wanted = "int32" if of_floats or is_other else ", ".join(it.name for it in _TYPE_NUMBERS)
         raise TypeError(f"values are of {kind}: {wanted} is wanted")
-    return _QUANTISED if quantisation else number
+    return _fits("other_type", attribute.other_type, 8) if is_other else _FLOAT if of_floats else number
 
 
 def _put_quantisation(head, quantisation):
@@ -696,6 +820,23 @@ def _whole_lines(text, count):
 def _step(grid):
     """The distance of two neighbours on a grid."""
     return np.float32(grid.range) / np.float32((1 << grid.bits) - 1)
+
+
+def _unit_vectors(pairs, bits):
+    """The vectors of length 1 that coordinates in the square of an octahedron stand for, pairs as floats of 32 bits. The square is y and z from -1
+    to 1; what is left of 1 is x, and where it is negative, y and z are folded along the edges of the octahedron. The product with the reciprocal of
+    the length is what Google's draco has, and not the quotient."""
+    one, zero = np.float32(1), np.float32(0)
+    with np.errstate(all="ignore"):
+        scale = np.float32(2) / np.float32((1 << bits) - 2)
+        y, z = (pairs[:, k] * scale - one for k in (0, 1))
+        x = one - np.abs(y) - np.abs(z)
+        fold = np.maximum(-x, zero)
+        y, z = (it + np.where(it < zero, fold, -fold) for it in (y, z))
+        square = x * x + y * y + z * z
+        has_length = square.astype(np.float64) >= 1e-6
+        inverse = np.where(has_length, one / np.sqrt(np.where(has_length, square, one)), zero)
+    return np.stack([x * inverse, y * inverse, z * inverse], axis=1)
 
 
 def _grid(floats, bits):

@@ -16,7 +16,7 @@ int main(int count, char **words) {
     for (int turn = atoi(words[2]); turn > 0; turn--) {
         drc_geometry geometry;
         drc_fault fault;
-        if (drc_decode(bytes, length, &geometry, &fault) != DRC_DONE) return 1;
+        if (drc_decode(bytes, length, 3, &geometry, &fault) != DRC_DONE) return 1;
         drc_free(&geometry);
     }
     free(bytes);

@@ -15,28 +15,11 @@
 //   numbering  the making of libdraco's mesh from the same arrays, with equal values and points numbered alike: of one turn
 // and the bytes of both streams, and of decoding and of encoding the median of the turns' ratios, libdrc's time over libdraco's. Each
 // stream is decoded by both libraries before, and has to have the triangles that went in.
-#include <drc.h>
-#include <draco/compression/decode.h>
 #include <draco/compression/encode.h>
-#include <fcntl.h>
-#include <sys/wait.h>
-#include <time.h>
-#include <unistd.h>
 
-#include <algorithm>
-#include <cstdio>
-#include <cstring>
 #include <functional>
-#include <memory>
-#include <string>
-#include <vector>
 
-using std::vector;
-
-[[noreturn]] static void fail(const std::string &why) {
-    fprintf(stderr, "bench/library/times: %s\n", why.c_str());
-    exit(1);
-}
+#include "decoding.hpp"
 
 // A mesh as arrays: heads, the points of faces, and integers point after point.
 struct Arrays {
@@ -156,57 +139,11 @@ static Arrays mesh_of(int kind, uint32_t side, uint64_t seed) {
     }
 }
 
-// The triangles of a mesh, whatever the order of its faces and however they are turned, as a sum.
-template <class Row>
-static uint64_t triangles(size_t faces, size_t width, Row row) {
-    uint64_t sum = 0;
-    for (size_t f = 0; f < faces; f++) {
-        uint64_t corners[3];
-        for (int k = 0; k < 3; k++) {
-            const int32_t *values = row(f, k);
-            corners[k] = 1469598103934665603u;
-            for (size_t j = 0; j < width; j++) corners[k] = (corners[k] ^ (uint32_t)values[j]) * 1099511628211u;
-        }
-        for (int k = 0; k < 3; k++) sum += (corners[k] * 31 + corners[(k + 1) % 3]) * 31 + corners[(k + 2) % 3] * corners[k];
-    }
-    return sum;
-}
-
 static uint64_t triangles_of(const Arrays &mesh) {
     return triangles(mesh.faces(), mesh.width, [&](size_t f, int k) { return &mesh.values[mesh.corners[3 * f + k] * mesh.width]; });
 }
 
-static uint64_t triangles_of(const drc_geometry &mesh) {
-    uint32_t width = mesh.shape.width;
-    return triangles(mesh.shape.faces, width, [&](size_t f, int k) { return mesh.values + mesh.corners[3 * f + k] * (size_t)width; });
-}
-
-static uint64_t triangles_of(const draco::Mesh &mesh, size_t width) {
-    vector<int32_t> row(width);
-    return triangles(mesh.num_faces(), width, [&](size_t f, int k) {
-        draco::PointIndex point = mesh.face(draco::FaceIndex(f))[k];
-        size_t at = 0;
-        for (int id = 0; id < mesh.num_attributes(); at += mesh.attribute(id)->num_components(), id++)
-            if (!mesh.attribute(id)->ConvertValue<int32_t>(mesh.attribute(id)->mapped_index(point), &row[at])) fail("no integers");
-        return row.data();
-    });
-}
-
 // libdrc.
-
-static drc_geometry decoded(const char *bytes, size_t length) {
-    drc_geometry mesh;
-    drc_fault fault;
-    if (drc_decode((const uint8_t *)bytes, length, &mesh, &fault) != DRC_DONE) fail("libdrc doesn't decode");
-    return mesh;
-}
-
-// Decodes without room for arrays, so that none is handed out.
-static void decoded_alone(const char *bytes, size_t length) {
-    drc_shape shape;
-    drc_fault fault;
-    if (drc_decode_into((const uint8_t *)bytes, length, NULL, 0, NULL, 0, &shape, &fault) != DRC_NO_ROOM) fail("libdrc had room");
-}
 
 static uint32_t encode(const Arrays &mesh, const drc_options &options, drc_stream &stream, drc_fault &fault) {
     return drc_encode(1, mesh.heads.data(), mesh.heads.size(), mesh.corners.data(), mesh.faces(), mesh.values.data(), mesh.values.size(),
@@ -261,17 +198,6 @@ static void refused_before(Arrays &mesh, const Coding &coding) {
 
 // libdraco.
 
-static std::unique_ptr<draco::Mesh> decoded_there(const char *bytes, size_t length) {
-    draco::Decoder decoder;
-    using Attribute = draco::GeometryAttribute;
-    for (Attribute::Type type : {Attribute::POSITION, Attribute::GENERIC, Attribute::TEX_COORD}) decoder.SetSkipAttributeTransform(type);
-    draco::DecoderBuffer buffer;
-    buffer.Init(bytes, length);
-    auto mesh = decoder.DecodeMeshFromBuffer(&buffer);
-    if (!mesh.ok()) fail("libdraco doesn't decode: " + mesh.status().error_msg_string());
-    return std::move(mesh).value();
-}
-
 // One attribute of a mesh, with a value for each point.
 static void add_attribute(draco::Mesh &mesh, const Arrays &arrays, const drc_head &head, size_t at) {
     const bool is_byte = head.dtype == 2;
@@ -325,12 +251,6 @@ static void encode_there(const draco::Mesh &mesh, const Coding &coding, draco::E
 
 // Times.
 
-static double processor_seconds() {
-    timespec now;
-    clock_gettime(CLOCK_PROCESS_CPUTIME_ID, &now);
-    return now.tv_sec + 1e-9 * now.tv_nsec;
-}
-
 // The times of a turn of each work, in nanoseconds a face.
 static vector<double> turn(size_t faces, const vector<std::function<void()>> &works) {
     vector<double> times;
@@ -342,89 +262,6 @@ static vector<double> turn(size_t faces, const vector<std::function<void()>> &wo
     return times;
 }
 
-// The ways in which streams are decoded, by the words that a process of their own is begun with.
-static void decode(const std::string &way, const std::string &stream) {
-    if (way == "there") {
-        decoded_there(stream.data(), stream.size());
-    } else if (way == "alone") {
-        decoded_alone(stream.data(), stream.size());
-    } else {
-        drc_geometry mesh = decoded(stream.data(), stream.size());
-        drc_free(&mesh);
-    }
-}
-
-static void take(void *to, size_t size) {
-    if (fread(to, 1, size, stdin) != size) exit(0);
-}
-
-// The work of such a process: takes the streams, and then for each byte decodes all of them and answers the seconds that it took.
-static int serve(const std::string &way) {
-    size_t count;
-    take(&count, sizeof count);
-    vector<std::string> streams(count);
-    for (std::string &stream : streams) {
-        size_t length;
-        take(&length, sizeof length);
-        stream.resize(length);
-        take(&stream[0], length);
-    }
-    for (char asked;;) {
-        take(&asked, 1);
-        const double begin = processor_seconds();
-        for (const std::string &stream : streams) decode(way, stream);
-        const double seconds = processor_seconds() - begin;
-        fwrite(&seconds, sizeof seconds, 1, stdout);
-        fflush(stdout);
-    }
-}
-
-// A process of its own that decodes streams and does nothing else. What other work leaves in memory, blocks that were freed and pages
-// that libdrc asked to be huge, is not there, as it isn't where one library is used alone.
-class Decoder {
-    FILE *to, *from;
-    pid_t child;
-
-public:
-    Decoder(const char *way, const vector<std::string> &streams) {
-        int asked[2], answered[2];
-        if (pipe2(asked, O_CLOEXEC) != 0 || pipe2(answered, O_CLOEXEC) != 0 || (child = fork()) < 0) fail("no process can be had");
-        if (child == 0) {
-            dup2(asked[0], 0), dup2(answered[1], 1);
-            execl("/proc/self/exe", "library", way, (char *)nullptr);
-            _exit(1);
-        }
-        close(asked[0]), close(answered[1]);
-        to = fdopen(asked[1], "wb"), from = fdopen(answered[0], "rb");
-        put(streams.size());
-        for (const std::string &stream : streams) {
-            put(stream.size());
-            fwrite(stream.data(), 1, stream.size(), to);
-        }
-    }
-
-    Decoder(const Decoder &) = delete;
-
-    ~Decoder() {
-        fclose(to), fclose(from);
-        waitpid(child, nullptr, 0);
-    }
-
-    void put(size_t number) { fwrite(&number, sizeof number, 1, to); }
-
-    // The time of a turn, in nanoseconds a face.
-    double turn(size_t faces) {
-        double seconds;
-        if (fputc('t', to) == EOF || fflush(to) != 0 || fread(&seconds, sizeof seconds, 1, from) != 1) fail("a process is gone");
-        return seconds * 1e9 / faces;
-    }
-};
-
-static double median(vector<double> numbers) {
-    std::nth_element(numbers.begin(), numbers.begin() + numbers.size() / 2, numbers.end());
-    return numbers[numbers.size() / 2];
-}
-
 // One mesh for both libraries, and its streams by one method.
 struct Entry {
     Arrays arrays;
@@ -434,15 +271,17 @@ struct Entry {
     draco::EncoderBuffer stream_there;
 };
 
+static std::string ours(const Entry &entry) {
+    return std::string((const char *)entry.stream.bytes, entry.stream.lengths.bytes);
+}
+
 static void check(const Entry &entry) {
     const uint64_t due = triangles_of(entry.arrays);
-    for (bool is_ours : {true, false}) {
-        const char *bytes = is_ours ? (const char *)entry.stream.bytes : entry.stream_there.data();
-        const size_t length = is_ours ? entry.stream.lengths.bytes : entry.stream_there.size();
-        drc_geometry mesh = decoded(bytes, length);
+    for (const std::string &stream : {ours(entry), std::string(entry.stream_there.data(), entry.stream_there.size())}) {
+        drc_geometry mesh = decoded(stream, 2);
         if (triangles_of(mesh) != due) fail("libdrc gives other triangles");
         drc_free(&mesh);
-        if (triangles_of(*decoded_there(bytes, length), entry.arrays.width) != due) fail("libdraco gives other triangles");
+        if (triangles_of(*decoded_there(stream), entry.arrays.width) != due) fail("libdraco gives other triangles");
     }
 }
 
@@ -462,11 +301,11 @@ static void time_meshes(const char *name, int turns, const Coding &coding, vecto
     }
     auto each = [&entries](std::function<void(Entry &)> work) { return [&entries, work] { for (Entry &it : entries) work(it); }; };
     vector<std::string> streams;
-    for (const Entry &it : entries) streams.emplace_back((const char *)it.stream.bytes, it.stream.lengths.bytes);
-    Decoder here("here", streams), there("there", streams), alone("alone", streams);
+    for (const Entry &it : entries) streams.push_back(ours(it));
+    Decoder here("2", streams), there("there", streams), alone("alone", streams);
     vector<double> least(7, 1e30), decoding, encoding;
     for (int k = 0; k < turns; k++) {
-        vector<double> times = {here.turn(faces), there.turn(faces), alone.turn(faces)};
+        vector<double> times = {here.turn(faces).time, there.turn(faces).time, alone.turn(faces).time};
         const vector<double> others = turn(faces, {
             each([coding](Entry &it) {
                 drc_stream stream = encoded(it.arrays, coding);
@@ -499,7 +338,7 @@ static void add(vector<Entry> &entries, Arrays arrays) {
 }
 
 int main(int count, char **words) {
-    if (count == 2) return serve(words[1]);
+    if (count == 2) serve(words[1]);
     if (count != 4) fail("usage: library TURNS SIDE SMALL");
     const int turns = atoi(words[1]), side = atoi(words[2]), small = atoi(words[3]);
     const Coding codings[] = {{"seq", DRC_METHOD_SEQUENTIAL, 0},

@@ -4,9 +4,9 @@ import re
 import numpy as np
 
 from .gltf import COMPONENT_OF, COMPONENTS, DRACO, INDEX_DATA, OF_PRIMITIVES, POINT_DATA, ROWS, hashable, is_count
-from .grids import Grid, check_finite, grid_of, to_floats, to_integers
+from .grids import Grid, check_finite, check_held, grid_by_step, grid_of, octahedral, to_floats, to_integers
 from .mesh import FACES, POINTS, many
-from .packing import sequential
+from .packing import sequential, with_method, with_profile
 from .plytext import COLOUR, GENERIC, NORMAL, POSITION, QUANTISED, TEXTURE, TYPE_OF, Geometry, Head, read_text, write_text
 from .surface import degenerate, numbers_of, points_made
 from .trouble import Refused, Trouble
@@ -63,6 +63,25 @@ def bounds(accessor, name, table):
 # To streams.
 
 
+def is_plain(table):
+    """Whether a table is one of finite floats in rows of three."""
+    return table.dtype == np.float32 and table.shape[1] == 3 and len(table) > 0 and bool(np.isfinite(table).all())
+
+
+def integers_of(table, head):
+    """The integers of an attribute: those of its floats by its head, or the table's own."""
+    return octahedral(table, head.octa) if head.octa else to_integers(table, head.grid) if head.grid else table
+
+
+def joined(sets):
+    """Sets of which any two that have an item in common are put together."""
+    made = []
+    for one in sets:
+        apart = [it for it in made if not it & one]
+        made = [*apart, one.union(*(it for it in made if it & one))]
+    return made
+
+
 def whole_grid(table):
     """A grid of step 1 where floats are whole numbers, such as labels, which come back as they are; else None."""
     low = table.min(axis=0) if len(table) else np.zeros(table.shape[1])
@@ -74,13 +93,51 @@ def whole_grid(table):
 
 
 class Packing:
-    """Codes primitives by `drc enc`, with bits for each kind of attribute and the options of `enc`."""
+    """Codes primitives by `drc enc`, as the settings say (gltf_files.Settings)."""
 
-    def __init__(self, gltf, drc, bits, words, keep_degenerate, tell):
-        self.gltf, self.drc, self.bits, self.words, self.keep_degenerate, self.tell = gltf, drc, bits, words, keep_degenerate, tell
+    def __init__(self, gltf, drc, settings, tell):
+        self.gltf, self.drc, self.settings, self.tell = gltf, drc, settings, tell
+        self.words, self.keep_degenerate = list(settings.enc), settings.keep_degenerate
         self.coded, self.error = 0, 0.0
         self.flat = []  # where faces with two corners at one place stand, and how many
         self.faces_seen = 0
+        self.shared = {} if settings.own_grids else self.shared_grids()
+        self.grids = {}  # of the positions of what was coded, by their words
+
+    def shared_grids(self):
+        """For each accessor of positions the grid that all primitives of its mesh have, so that places which they share stay shared. Meshes that
+        share positions have one grid too, and by a step that is asked for all meshes of the file."""
+        found, mesh_of = {}, {}
+        for where, item in primitives(self.gltf):
+            number = item["attributes"].get("POSITION")
+            if self.is_coded(item):
+                mesh_of.setdefault(number, set()).add(where.partition(".")[0])
+                found.setdefault(number, (where, self.gltf.rows_of(number, where)))
+        shared = {}
+        for meshes in [set().union(*mesh_of.values())] if self.settings.step else joined(mesh_of.values()):
+            numbers = [it for it, names in mesh_of.items() if names <= meshes and is_plain(found[it][1])]
+            tables = [found[it][1] for it in numbers]
+            if tables:
+                ends = np.concatenate([[it.min(axis=0), it.max(axis=0)] for it in tables])
+                grid = self.grid_of_positions(found[numbers[0]][0], ends)
+                shared.update(dict.fromkeys(numbers, grid))
+        return shared
+
+    def is_coded(self, item):
+        try:
+            self.fits(item)
+        except Left:
+            return False
+        return True
+
+    def grid_of_positions(self, where, table):
+        """The grid that is asked for, for a table of positions."""
+        what = f"{where}.POSITION: points"
+        if self.settings.grid:
+            return self.settings.grid
+        if self.settings.step:
+            return grid_by_step(table, self.settings.step, what)
+        return grid_of(table, self.settings.bits["qp"], what)
 
     def groups(self):
         key = lambda it: (
@@ -98,21 +155,25 @@ class Packing:
             self.fits(items[0])
             names, tables = self.tables(where, items[0])
             heads = [self.head(where, k, name, items[0], it) for k, (name, it) in enumerate(zip(names, tables))]
-            values = [to_integers(it, head.grid) if head.grid else it for it, head in zip(tables, heads)]
+            values = [integers_of(it, head) for it, head in zip(tables, heads)]
             faces = self.faces(where, items[0], len(tables[0]))
             faces, words = self.method(where, items[0], names, values, faces)
             used = np.arange(len(tables[0])) if items[0].get("targets") else np.unique(faces)
+            if self.settings.grid and heads[0].grid:
+                check_held(tables[0][used], heads[0].grid, f"{where}.POSITION: point")
             values, faces = [it[used] for it in values], np.searchsorted(used, faces)
             geometry = Geometry(heads, values, faces)
             for what, count, most in (("points", geometry.points, POINTS), ("faces", len(faces), FACES)):
                 if count > most:
                     raise Left(f"it has {count:,} {what}, and a stream has at most {most:,}")
+            words = with_profile(with_method(words, len(faces)), self.settings.profile, True)
             stream = self.encode(geometry, words)
         except Left as why:
             self.tell(f"{where} is left as it is: {why}")
             return
         self.coded += len(items)
         if heads[0].grid:
+            self.grids[str(heads[0].grid)] = heads[0].grid
             there = to_floats(to_integers(tables[0], heads[0].grid), heads[0].grid)
             self.error = max(self.error, float(np.abs(there.astype(float) - tables[0])[used].max()))
         self.put(items, names, geometry, stream, geometry.points if "seq" in words else points_made(geometry.faces, geometry.values))
@@ -122,7 +183,7 @@ class Packing:
         a face: such a stream other readers refuse."""
         text = write_text(geometry)
         try:
-            if words != self.words and "--index" not in words:
+            if "seq" in words and "seq" not in self.words and "--index" not in words:
                 stream, _ = self.drc.enc(text, [*words, "--index", "packed"])
                 if len(stream) >= 3 * len(geometry.faces) + 32:
                     return stream
@@ -181,10 +242,18 @@ class Packing:
         usage, option = next((usage, option) for pattern, usage, option in KINDS if re.fullmatch(pattern, name))
         if table.dtype == np.float32:
             check_finite(table, f"{where}.{name}: point")
-            grid = whole_grid(table) if usage == GENERIC else None
-            return Head(usage, QUANTISED, table.shape[1], 0, number, grid or grid_of(table, self.bits[option], f"{where}.{name}: points"))
+            if usage == NORMAL and self.settings.profile == 3 and table.shape[1] == 3:
+                return Head(usage, QUANTISED, 2, 0, number, octa=self.settings.bits[option])
+            return Head(usage, QUANTISED, table.shape[1], 0, number, self.grid(where, name, usage, option, item, table))
         is_normalized = self.gltf.json["accessors"][item["attributes"][name]].get("normalized") is True
         return Head(usage, TYPE_OF[table.dtype.name], table.shape[1], int(is_normalized), number)
+
+    def grid(self, where, name, usage, option, item, table):
+        """The grid of an attribute of floats."""
+        if name == "POSITION":
+            return self.shared.get(item["attributes"][name]) or self.grid_of_positions(where, table)
+        whole = whole_grid(table) if usage == GENERIC else None
+        return whole or grid_of(table, self.settings.bits[option], f"{where}.{name}: points")
 
     def faces(self, where, item, count):
         if "indices" in item:
@@ -260,6 +329,16 @@ class Packing:
 # From streams.
 
 
+def coded_positions(gltf):
+    """The stream of each coded primitive that has positions, with the id of these in it; a stream of several primitives once."""
+    found = {}
+    for where, item in primitives(gltf):
+        extension = item.get("extensions", {}).get(DRACO)
+        if isinstance(extension, dict) and isinstance(extension.get("attributes"), dict) and "POSITION" in extension["attributes"]:
+            found[hashable(extension.get("bufferView"))] = extension["attributes"]["POSITION"], bytes(gltf.view(extension.get("bufferView"), where))
+    return list(found.values())
+
+
 class Unpacking:
     """Decodes primitives by `drc dec`, and puts their values into buffers."""
 
@@ -313,13 +392,13 @@ class Unpacking:
         accessor = self.gltf.json["accessors"][item["attributes"][name]]
         kind, comps = COMPONENTS.get(hashable(accessor.get("componentType"))), ROWS.get(hashable(accessor.get("type")))
         head, values = geometry.heads[found[0]], geometry.floats(found[0])
-        if kind is None or comps != head.comps:
-            raise Trouble(f"{where}: {name} has {head.comps} components in its stream, its accessor is of type {accessor.get('type')}")
+        if kind is None or comps != head.wide:
+            raise Trouble(f"{where}: {name} has {head.wide} components in its stream, its accessor is of type {accessor.get('type')}")
         if kind is np.float32:
-            if head.normalized and not head.grid:
+            if head.normalized and not head.has_floats:
                 values = values.astype(np.float32) / np.float32(np.iinfo(values.dtype).max)
             return values.astype(np.float32)
-        if head.grid:
+        if head.has_floats:
             raise Trouble(f"{where}: {name} has quantised floats in its stream, its accessor says integers")
         limits = np.iinfo(kind)
         if len(values) and (values.min() < limits.min or values.max() > limits.max):

@@ -4,7 +4,7 @@ import os
 import pathlib
 import re
 
-from . import files, gltf_files, packing, reading
+from . import files, gltf_files, grid_files, packing, program, reading
 from .many import FAILED, PASSED_OVER, Job, Row, map_before
 from .trouble import BAD_WORDS, READING, Trouble
 
@@ -50,10 +50,13 @@ def targets_of(names, ending):
         whole |= more
 
 
-def settings_of(given):
-    if given.do == "gltf":
-        return None if given.unpack else gltf_files.settings_of(given)
-    return packing.settings_of(given) if given.do in ("pack", "verify") else None
+def settings_of(given, drc):
+    """How the files are packed; a file that `--grid` names is read here, once for all of them."""
+    if given.do not in ("pack", "verify", "gltf") or given.do == "gltf" and given.unpack:
+        return None
+    drc = program.Drc(drc)
+    grid = grid_files.grid_of(drc, given.grid)
+    return gltf_files.settings_of(given, drc, grid) if given.do == "gltf" else packing.settings_of(given, grid)
 
 
 def words_of(given, settings, options):
@@ -72,7 +75,7 @@ def jobs_of(given, drc):
         raise Trouble(f"{given.do} doesn't write into the folder that it reads", BAD_WORDS)
     is_wanted, _ = WANTED[given.do]
     sources = [it for it in found.files if it.is_file() and is_wanted(it)]
-    settings = settings_of(given)
+    settings = settings_of(given, drc)
     options = packing.choices_of(given) if given.do == "recode" else ("--surface",) if getattr(given, "surface", False) else ()
     ending = {"unpack": f".{getattr(given, 'to', '')}", "gltf": ".glb"}.get(given.do, ".drc")
     targets = targets_of([it.relative_to(found.folder) for it in sources], ending)

@@ -5,17 +5,18 @@ from dataclasses import dataclass, field
 from . import files
 from .draco_primitives import Packing, Unpacking
 from .gltf import DRACO, Gltf, is_glb
-from .packing import add_degenerate
+from .mesh import at_least
+from .grids import Grid
+from .packing import OCTAHEDRAL, add_choices, add_degenerate, add_grids, add_profile, choices_of, grid_words, normal_bits
 from .trouble import Trouble
 
 BITS = {  # what is quantised, and its bits without the option
     "qp": ("positions", 14),
-    "qn": ("normals and tangents", 10),
+    "qn": ("normals and of each component of tangents", 10),
     "qt": ("texture coordinates", 12),
     "qc": ("colours that are floats", 10),
     "qg": ("weights and other floats", 12),
 }
-CHOICES = {"method": "seq eb valence", "index": "plain packed", "predict": "none diff para multi", "walk": "depth degree"}
 
 
 def bits(text):
@@ -26,42 +27,63 @@ def bits(text):
 
 def add_words(words):
     """The options of packing, for a command line."""
+    steps = words.add_mutually_exclusive_group()
     for option, (what, default) in BITS.items():
-        words.add_argument(f"--{option}", type=bits, default=default, metavar="BITS", help=f"bits of {what}, 1 to 30 (without it {default})")
+        group = steps if option == "qp" else words
+        is_of_normals = option == "qn"
+        more = f"{OCTAHEDRAL}, and {default} by --profile 2" if is_of_normals else default
+        group.add_argument(f"--{option}", type=bits, default=None if is_of_normals else default, metavar="BITS", help=f"bits of {what}, 1 to 30 (without it {more})")
+    add_grids(steps)
+    words.add_argument("--own-grids", action="store_true", help="a grid of its own for the positions of each primitive, which may part at their borders; "
+                       "without it one for all primitives of a mesh")
     add_degenerate(words)
-    for option, values in CHOICES.items():
-        words.add_argument(f"--{option}", choices=values.split(), help="as for `drc enc`")
-    words.add_argument("--plain-values", action="store_true", help="as for `drc enc`")
+    add_profile(words, None, "all readers of the extension take it; 2 has plain normals")
+    add_choices(words, "faces of a primitive on")
 
 
 @dataclass
 class Settings:
-    """How primitives are packed: bits by option, the options of `enc`, and what becomes of degenerate faces."""
+    """How primitives are packed: bits by option, the options of `enc`, what becomes of degenerate faces, for positions a step or the grid of
+    another file, whether each primitive has a grid of its own, and the profile: by 3 normals are octahedral."""
 
     bits: dict = field(default_factory=lambda: {option: default for option, (_, default) in BITS.items()})
     enc: tuple = ()
     keep_degenerate: bool = False
+    step: float = None
+    grid: Grid = None
+    own_grids: bool = False
+    profile: int = 3
 
     def __str__(self):
-        words = [f"--{name} {self.bits[name]}" for name in BITS] + ["--keep-degenerate"] * self.keep_degenerate
-        return " ".join([*words, *self.enc])
+        words = [f"--{name} {self.bits[name]}" for name in BITS] + ["--keep-degenerate"] * self.keep_degenerate + ["--own-grids"] * self.own_grids + [f"--profile {self.profile}"]
+        return " ".join([*words, *grid_words(self), *self.enc])
 
 
-def settings_of(given):
-    """The settings of a command line."""
-    words = [it for name in CHOICES if getattr(given, name) for it in (f"--{name}", getattr(given, name))]
-    return Settings({name: getattr(given, name) for name in BITS}, (*words, *["--plain-values"] * given.plain_values), given.keep_degenerate)
+def settings_of(given, drc, grid=None):
+    """The settings of a command line, with the grid of the file that it names. Without a word the profile is 3 where the program writes it."""
+    profile = given.profile or (3 if drc.writes_profile_three() else 2)
+    kept = {**{name: getattr(given, name) for name in BITS}, "qn": normal_bits(given, profile)}
+    return Settings(kept, choices_of(given), given.keep_degenerate, given.step, grid, given.own_grids, profile)
 
 
 @dataclass
 class Changed:
-    """What became of a file: how many of its primitives were coded or decoded, its bytes with its buffers, and the positions' error."""
+    """What became of a file: how many of its primitives were coded or decoded, its bytes with its buffers, and the positions' error and grids."""
 
     coded: int
     primitives: int
     before: int
     after: int
     error: float
+    grids: list
+
+    def positions(self):
+        """What became of positions, in words."""
+        line = f"positions are at most {at_least(self.error)} off"
+        if len(self.grids) == 1:
+            return f"{line}: {self.grids[0]}"
+        steps = sorted(float(it.step) for it in self.grids)
+        return f"{line}, on {len(steps)} grids, of steps from {steps[0]:.6g} to {steps[-1]:.6g}" if steps else line
 
 
 def changed(drc, source, out, settings, put, tell=lambda line: None, progress=None):
@@ -77,8 +99,10 @@ def changed(drc, source, out, settings, put, tell=lambda line: None, progress=No
 
 def made(gltf, drc, source, out, settings, put, tell, progress):
     is_pack = settings is not None
+    if is_pack:
+        drc.check_profile(settings.profile)
     before = gltf.size + sum(len(it.data) for it in gltf.buffers if it.place == "beside")
-    work = Packing(gltf, drc, settings.bits, list(settings.enc), settings.keep_degenerate, tell) if is_pack else Unpacking(gltf, drc)
+    work = Packing(gltf, drc, settings, tell) if is_pack else Unpacking(gltf, drc)
     groups = work.groups()
     if progress:
         progress.total = len(groups)
@@ -106,4 +130,4 @@ def made(gltf, drc, source, out, settings, put, tell, progress):
         tell(f"images stay beside the input and aren't copied: {', '.join(images)}")
     total = sum(len(mesh["primitives"]) for mesh in gltf.table("meshes"))
     after = sum(map(len, wanted.values()))
-    return Changed(work.coded, total, before, after, work.error if is_pack else 0.0)
+    return Changed(work.coded, total, before, after, *((work.error, list(work.grids.values())) if is_pack else (0.0, [])))

@@ -151,7 +151,7 @@ def recode(drc, job):
     """Where the new stream is longer, the old one is kept. The map that is kept is one to the mesh, where the map of the old stream stands
     beside it, else one to the old stream."""
     old = files.read(job.source)
-    ran = drc.done(["recode", *job.options], old)
+    ran = drc.done(["recode", *job.options, *program.PROFILE], old)
     is_kept = len(ran.out) > len(old) and not job.any_size
     note, before = ran.note.encode(), map_before(job)
     if job.map and is_kept:
@@ -179,7 +179,8 @@ def verify(drc, job):
         raise Trouble(f"{job.out} isn't there: {job.source} isn't packed", READING)
     _, text, _, _ = packing.text_of(job.source, job.settings)
     stream = files.read(job.out)
-    ran = drc.done(["verify", *job.options], b"".join([files.read(job.map), b"ply %d\n" % len(text), text, stream]), (0, NOT_SAME_STATUS))
+    given = b"".join([files.read(job.map), b"ply %d\n" % len(text), text, stream])
+    ran = drc.done(["verify", *job.options, *program.PROFILE], given, (0, NOT_SAME_STATUS))
     if ran.status == NOT_SAME_STATUS:
         words = ran.note.split()
         wrong = Refused(*(words[2:4] if len(words) >= 4 else ("", "")), f"{job.source}: {ran.note.strip()}: {job.out} isn't this mesh")

@@ -61,11 +61,13 @@ def of_geometry(geometry, report):
     position = geometry.first(POSITION) or 0
     made = {"stream": said, "points": geometry.points, "position": position, "attributes": []}
     for k, (head, (prediction, entries)) in enumerate(zip(geometry.heads, coded)):
-        item = {"usage": head.usage, "type": TYPE_NAMES[head.dtype], "components": head.comps, "normalized": head.normalized, "id": head.id}
+        item = {"usage": head.usage, "type": TYPE_NAMES[head.dtype], "components": head.wide, "normalized": head.normalized, "id": head.id}
         item.update(prediction=prediction, entries=entries)
         if head.grid:
             item.update(bits=head.grid.bits, range=float(head.grid.range) if np.isfinite(head.grid.range) else None)
-        made["attributes"].append({**item, "values": packed(geometry.from_origin(k), "<f4" if head.grid else "<i4")})
+        if head.octa:
+            item.update(octahedral=head.octa)
+        made["attributes"].append({**item, "values": packed(geometry.from_origin(k), "<f4" if head.has_floats else "<i4")})
     if geometry.faces is not None:
         places, borders, seams = lines_of(geometry, position)
         made.update(faces=len(geometry.faces), corners=packed(geometry.faces, "<u4"), borders=packed(borders, "<u4"))

@@ -4,7 +4,7 @@ from dataclasses import dataclass, field
 
 import numpy as np
 
-from .grids import FLOAT, Grid, to_doubles, to_floats
+from .grids import FLOAT, Grid, to_doubles, to_floats, unit_vectors
 from .trouble import Trouble
 
 POSITION, NORMAL, COLOUR, TEXTURE, GENERIC = range(5)
@@ -18,7 +18,8 @@ ROWS_AT_ONCE = 1 << 16
 
 @dataclass
 class Head:
-    """What an attribute is: usage (0 to 4), data type (1 to 6, or 9 for quantised floats with their grid), components, flag and id."""
+    """What an attribute is: usage (0 to 4), data type (1 to 6, or 9 for floats), components, flag and id. Floats have a grid where they are quantised,
+    and `octa`, the bits of both coordinates, where they are octahedral normals, which have two components."""
 
     usage: int
     dtype: int
@@ -26,6 +27,17 @@ class Head:
     normalized: int = 0
     id: int = 0
     grid: Grid = None
+    octa: int = None
+
+    @property
+    def wide(self):
+        """How many numbers a value is where it isn't coded: three of an octahedral normal, else the components."""
+        return 3 if self.octa else self.comps
+
+    @property
+    def has_floats(self):
+        """Whether the integers stand for floats."""
+        return self.grid is not None or self.octa is not None
 
 
 @dataclass
@@ -41,8 +53,10 @@ class Geometry:
         self.points = len(self.values[0]) if self.values else 0
 
     def floats(self, k):
-        """The values of head k: floats of 32 bits by its grid, or the integers as they are."""
+        """The values of head k: floats of 32 bits by its grid, unit vectors of octahedral normals, or the integers as they are."""
         head = self.heads[k]
+        if head.octa:
+            return unit_vectors(self.values[k], head.octa)
         return to_floats(self.values[k], head.grid) if head.grid else self.values[k]
 
     def numbers(self, k):
@@ -74,16 +88,18 @@ def float_of(word):
     return np.array(int(word, 16), np.uint32).view(FLOAT)[()]
 
 
-def names_of(heads):
-    """The names of the columns: those of the format for the first head of each usage, `a<k>_<j>` for any other component."""
+def names_of(heads, of_floats=False):
+    """The names of the columns: those of the format for the first head of each usage, `a<k>_<j>` for any other component. Octahedral integers have the
+    latter and are no first head; the floats that they stand for are named like others."""
     taken, names = set(), []
     for k, head in enumerate(heads):
-        given = NAMES.get((head.usage, head.comps))
+        wide = head.wide if of_floats else head.comps
+        given = NAMES.get((head.usage, wide)) if of_floats or not head.octa else None
         if given and head.usage not in taken:
             taken.add(head.usage)
             names.append(given.split())
         else:
-            names.append([f"a{k}_{j}" for j in range(head.comps)])
+            names.append([f"a{k}_{j}" for j in range(wide)])
     return names
 
 
@@ -102,6 +118,8 @@ def write_text(geometry, comments=()):
         head.append(f"comment drc attr {k} {it.usage} {it.dtype} {it.comps} {it.normalized} {it.id}")
         if it.grid:
             head.append(f"comment drc quant {k} {it.grid.bits} {bits_of(it.grid.range)} {' '.join(map(bits_of, it.grid.minimum))}")
+        if it.octa:
+            head.append(f"comment drc octa {k} {it.octa}")
     head.append(f"element vertex {geometry.points}")
     for it, names in zip(geometry.heads, names_of(geometry.heads)):
         head += [f"property {TYPES[it.dtype]} {name}" for name in names]
@@ -128,6 +146,8 @@ def read_text(text):
             heads.append(Head(*map(int, words[4:9])))
         elif re.match(r"comment drc quant ", line):
             heads[int(words[3])].grid = Grid(int(words[4]), float_of(words[5]), np.array([float_of(it) for it in words[6:]], FLOAT))
+        elif re.match(r"comment drc octa ", line):
+            heads[int(words[3])].octa = int(words[4])
         elif words[:2] == ["element", "vertex"]:
             points = int(words[2])
         elif words[:2] == ["element", "face"]:

@@ -7,12 +7,13 @@ import subprocess
 from typing import NamedTuple
 
 from .faults import in_words
-from .trouble import MEMORY, MISSING, READING, REFUSED, WRITING, Refused, Trouble
+from .trouble import BAD_WORDS, MEMORY, MISSING, READING, REFUSED, WRITING, Refused, Trouble
 
 TOP = pathlib.Path(__file__).resolve().parents[2]  # the repository, or PREFIX/share/drc where ./install put this
 OWN = (TOP / "crates/drc/out/drc", TOP.parents[1] / "bin/drc" if TOP.parts[-2:] == ("share", "drc") else None)
 
 KD_MAGIC = b"KDPTS"
+PROFILE = ("--profile", "3")  # what streams are read by: octahedral normals and texture coordinates predicted by positions too
 
 
 def find(given=None):
@@ -77,13 +78,22 @@ class Drc:
         ran = self.done(["enc", *options], text)
         return ran.out, ran.note
 
+    def writes_profile_three(self):
+        """Whether the program codes octahedral normals; an earlier one doesn't know the words."""
+        return self.run(["enc", *PROFILE, "--predict", "shape"], b"").status != BAD_WORDS
+
+    def check_profile(self, profile):
+        """Refuses profile 3 where the program reads it alone."""
+        if profile == 3 and not self.writes_profile_three():
+            raise Trouble(f"{self.path} reads profile 3 and doesn't write it; a later one does, and --profile 2 goes without", MISSING)
+
     def dec(self, stream):
         """A stream, or a kd-tree file, to a PLY text."""
-        return self.done(["kd", "dec"] if is_kd(stream) else ["dec"], stream).out
+        return self.done(["kd", "dec"] if is_kd(stream) else ["dec", *PROFILE], stream).out
 
     def info(self, stream):
         """The report of a stream; None of a kd-tree file, of which `drc` gives none."""
-        return None if is_kd(stream) else self.done(["info"], stream).out.decode()
+        return None if is_kd(stream) else self.done(["info", *PROFILE], stream).out.decode()
 
 
 def is_kd(data):

@@ -15,7 +15,7 @@ SPECS = {"char": "<i1", "uchar": "<u1", "short": "<i2", "ushort": "<u2", "int": 
 
 
 def type_of(head):
-    return TYPES[head.dtype] if not head.grid else "double" if head.grid.is_fine else "float"
+    return TYPES[head.dtype] if not head.has_floats else "double" if head.grid and head.grid.is_fine else "float"
 
 
 def floats_of(geometry, usage):
@@ -53,7 +53,7 @@ def float_lines(table, before=""):
 
 def ply(geometry, is_text):
     """All attributes, floats as `float` and integers as their type; binary, or text."""
-    names = names_of(geometry.heads)
+    names = names_of(geometry.heads, of_floats=True)
     columns = [(name, type_of(head)) for head, group in zip(geometry.heads, names) for name in group]
     head = ["ply", "format ascii 1.0" if is_text else "format binary_little_endian 1.0", f"element vertex {geometry.points}"]
     head += [f"property {kind} {name}" for name, kind in columns]
@@ -70,7 +70,7 @@ def ply(geometry, is_text):
         if geometry.faces is not None:
             parts += lines_of(geometry.faces, "3 ")
     else:
-        rows = np.zeros(geometry.points, np.dtype([(f"{k}", SPECS[type_of(it)], (it.comps,)) for k, it in enumerate(geometry.heads)]))
+        rows = np.zeros(geometry.points, np.dtype([(f"{k}", SPECS[type_of(it)], (it.wide,)) for k, it in enumerate(geometry.heads)]))
         for k, table in enumerate(tables):
             rows[f"{k}"] = table
         parts.append(rows.tobytes())
@@ -97,9 +97,9 @@ def obj(geometry, _):
     places = geometry.numbers(geometry.first(POSITION))
     places = places.astype(np.float32) if places.dtype != np.float64 else places
     colour, texture, normal = geometry.first(COLOUR), geometry.first(TEXTURE), geometry.first(NORMAL)
-    if texture is not None and geometry.heads[texture].comps != 2:
+    if texture is not None and geometry.heads[texture].wide != 2:
         texture = None
-    if normal is not None and geometry.heads[normal].comps != 3:
+    if normal is not None and geometry.heads[normal].wide != 3:
         normal = None
     if colour is not None and (geometry.heads[colour].comps not in (3, 4) or geometry.heads[colour].dtype != 2):
         colour = None
@@ -169,7 +169,7 @@ def glb_file(geometry, _):
     kept = [POSITION]
     for usage, name, comps, kind in ((NORMAL, "NORMAL", 3, "VEC3"), (TEXTURE, "TEXCOORD_0", 2, "VEC2")):
         k = geometry.first(usage)
-        if k is not None and geometry.heads[k].comps == comps:
+        if k is not None and geometry.heads[k].wide == comps:
             attributes[name] = add(geometry.floats(k).astype("<f4").tobytes(), 5126, kind, geometry.points, 34962)
             kept.append(usage)
     k = geometry.first(COLOUR)

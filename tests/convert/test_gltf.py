@@ -28,7 +28,8 @@ except ImportError:
     sys.exit(0)
 
 from drcfiles.glb import read_glb, write_glb
-from drcfiles.grids import grid_of, to_integers
+from drcfiles.grids import grid_of, octahedral, to_integers, unit_vectors
+from drcfiles.program import Drc
 from shapes import lattice, read_binary
 
 DRACO = "KHR_draco_mesh_compression"
@@ -184,6 +185,12 @@ class Document:
             return np.arange(self.json["accessors"][primitive["attributes"]["POSITION"]]["count"]).reshape(-1, 3)
         return self.rows(primitive["indices"]).reshape(-1, 3)
 
+    def grid(self, primitive, bits=14):
+        """The grid of the positions of all primitives of a primitive's mesh; None where they are integers."""
+        mesh = next(it for it in self.json["meshes"] if any(one is primitive for one in it["primitives"]))
+        tables = [self.rows(it["attributes"]["POSITION"]) for it in mesh["primitives"]]
+        return grid_of(np.concatenate(tables), bits) if tables[0].dtype == np.float32 else None
+
     def images(self):
         return [self.view(it["bufferView"]) for it in self.json.get("images", []) if "bufferView" in it]
 
@@ -226,9 +233,10 @@ def faces_there(data, count):
     return [struct.unpack_from("<3i", data, len(data) - step * (count - k) + 1) for k in range(count)]
 
 
-def on_grid(tables, bits, grids=None):
-    """The tables as integers on their grids (those of the first tables), and the grids."""
+def on_grid(tables, bits, grids=None, position=None):
+    """The tables as integers on their grids (those of the first tables; of positions, which are the first, the one that is given), and the grids."""
     grids = grids or [grid_of(it, b) if b and it.dtype == np.float32 else None for it, b in zip(tables, bits)]
+    grids = grids if position is None else [position, *grids[1:]]
     return [to_integers(it, grid) if grid else it for it, grid in zip(tables, grids)], grids
 
 
@@ -258,7 +266,8 @@ class Tests:
         return path
 
     def tool(self, *words):
-        return subprocess.run([TOOL, *map(str, words), "--force", "--drc", self.program], stdout=subprocess.PIPE, stderr=subprocess.PIPE)
+        plain = ["--profile", "2"] if words[0] == "pack" and "--profile" not in words else []
+        return subprocess.run([TOOL, *map(str, words), *plain, "--force", "--drc", self.program], stdout=subprocess.PIPE, stderr=subprocess.PIPE)
 
     def done(self, title, *words):
         """Runs the tool, which is to end well, and to replace what an earlier test left; gives the lines on standard error."""
@@ -266,11 +275,11 @@ class Tests:
         self.tell(ran.returncode == 0, f"{title}: status {ran.returncode} {ran.stderr.decode().strip()}")
         return ran.stderr.decode().splitlines() if ran.returncode == 0 else None
 
-    def refused(self, title, command, path, *parts):
+    def refused(self, title, command, path, *parts, words=()):
         """The tool is to refuse: status 2, one line with these words, nothing beside the input."""
         before = sorted(path.parent.iterdir())
         out = path.parent / "out.glb"
-        ran = self.tool(command, path, out)
+        ran = self.tool(command, path, out, *words)
         line = ran.stderr.decode()
         holds = (
             ran.returncode == 2 and line.count("\n") == 1 and all(it in line for it in parts) and sorted(path.parent.iterdir()) == before
@@ -297,10 +306,11 @@ class Tests:
             f"{title}: the lists after unpacking",
         )
         for k, (a, b, c) in enumerate(zip(given.primitives(), there.primitives(), again.primitives())):
-            bits = [BITS.get(name.replace("1", "0")) for name in names[k]]
-            mine, grids = on_grid(given.tables(a, names[k]), bits)
+            order = sorted(names[k], key=lambda name: name != "POSITION")
+            bits = [BITS.get(name.replace("1", "0")) for name in order]
+            mine, grids = on_grid(given.tables(a, order), bits, position=given.grid(a))
             wanted = triangles(mine, given.faces(a))
-            got = triangles(on_grid(again.tables(c, names[k]), bits, grids)[0], again.faces(c))
+            got = triangles(on_grid(again.tables(c, order), bits, grids)[0], again.faces(c))
             holds = wanted == got if not dropped else len(wanted) == len(got) + dropped and set(got) <= set(wanted)
             self.tell(holds, f"{title}: the triangles of primitive {k}")
             for name in names[k]:
@@ -556,6 +566,80 @@ class Tests:
             self.tell(lines and f"left out 2 of {count} faces" in lines[0] and "--keep-degenerate" in lines[0], f"degenerate faces {words}: a line says so: {lines}")
             self.tell("seq" in words or (path.parent / "packed.glb").stat().st_size < kept, "degenerate faces left out take fewer bytes")
 
+    def borders(self):
+        """Places that primitives of a mesh share stay shared, bit for bit; by a step or the grid of a file those of all meshes and files do. The line that is
+        printed says the grid."""
+        parts = [np.array(lattice(20)[0], "f4") * 0.37 + 0.11, np.array(lattice(7)[0], "f4") * 0.37 + 0.11, np.array(lattice(13)[0], "f4") * 0.37 + 0.11]
+        faces = [lattice(it)[1] for it in (20, 7, 13)]
+        it = Maker()
+        made = [{"attributes": {"POSITION": it.accessor(table, "f4", True)}, "indices": it.accessor(np.ravel(rows), "<u2")} for table, rows in zip(parts, faces)]
+        made.append({"attributes": dict(made[0]["attributes"]), "indices": it.accessor(np.ravel(faces[0])[:9], "<u2")})
+        it.scene(*made[:2])
+        it.json["meshes"] = [{"primitives": made[:2]}, {"primitives": [made[2]]}, {"primitives": [made[3]]}]
+        path = self.save("borders.glb", it.glb())
+        shared = {tuple(row) for row in parts[0].tolist()} & {tuple(row) for row in parts[1].tolist()} & {tuple(row) for row in parts[2].tolist()}
+        for words, is_shared, grids, said in (
+            ([], [True, False], 2, "on 2 grids, of steps from"), (["--own-grids"], [False, False], 3, "on 3 grids"), (["--step", "0.01"], [True, True], 1, "bits, step 0.01 (0.00999999978 as a float"),
+            (["--step", "0.0078125"], [True, True], 1, "10 bits, step 0.0078125, origin"), (["--grid", path.parent / "grid.glb"], [True, True], 1, "12 bits, step"),
+        ):
+            packed, back = path.parent / "packed.glb", path.parent / "back.glb"
+            ran = self.tool("pack", path, packed, *words)
+            self.tell(ran.returncode == 0 and said in ran.stdout.decode(), f"borders {words}: {ran.stdout} {ran.stderr}")
+            if not words:
+                one = Maker()
+                table = [row for part in parts for row in part.tolist()]
+                one.scene({"attributes": {"POSITION": one.accessor(table, "f4", True)}, "indices": one.accessor(np.arange(len(table) - len(table) % 3), "<u2")})
+                self.done("a grid's file", "pack", self.save("one.glb", one.glb()), path.parent / "grid.glb", "--qp", "12")
+            if self.done(f"borders {words}", "unpack", packed, back) is None:
+                continue
+            again = Document(back)
+            tables = [again.rows(p["attributes"]["POSITION"]) for p in again.primitives()]
+            near = [{near for near in map(tuple, table.tolist()) if min(np.abs(np.array(near) - row).max() for row in shared) < 0.03} for table in tables]
+            self.tell([near[0] >= near[1], near[0] >= near[2]] == is_shared, f"borders {words}: places that are shared")
+            streams = [Document(packed).view(p["extensions"][DRACO]["bufferView"]) for p in Document(packed).primitives()]
+            found = {line for it in streams for line in subprocess.run([self.program, "dec"], input=it, stdout=subprocess.PIPE, check=True).stdout.decode().splitlines() if "drc quant 0" in line}
+            self.tell(len(found) == grids, f"borders {words}: the grids {found}")
+        grid = path.parent / "grid.glb"
+        self.refused("outside of the grid", "pack", self.save("far.glb", two().glb()), "meshes[0].primitives[0].POSITION: point", "lies outside of the grid", words=["--grid", grid])
+        self.done("two grids", "pack", path, path.parent / "packed.glb")
+        self.refused("two grids", "pack", self.save("a.glb", net().glb()), "packed.glb", "2 grids", words=["--grid", path.parent / "packed.glb"])
+        self.refused("no grid", "pack", self.save("a.glb", net().glb()), "borders.glb", "no primitive of it is coded", words=["--grid", path])
+        self.refused("too fine", "pack", self.save("a.glb", net().glb()), "meshes[0].primitives[0].POSITION", "more than 30 bits", words=["--step", "1e-9"])
+        ran = self.tool("pack", path, grid, "--grid", grid)
+        self.tell(ran.returncode == 1 and b"is an input" in ran.stderr, f"the grid's file is an input: {ran.stderr}")
+        ran = self.tool("pack", path, grid, "--step", "1", "--qp", "9")
+        self.tell(ran.returncode == 1 and b"not allowed with" in ran.stderr, f"a step and bits: {ran.stderr}")
+
+    def methods(self):
+        """A primitive of a thousand faces or more is coded by valence where no method is asked for."""
+        for side, words, wanted in ((22, [], "eb"), (23, [], "valence"), (23, ["--method", "eb"], "eb"), (23, ["--method", "seq"], "seq")):
+            path = self.save("net.glb", net(side).glb())
+            packed = path.parent / "packed.glb"
+            if self.done(f"{side} {words}", "pack", path, packed, *words) is not None:
+                stream = Document(packed).view(Document(packed).primitives()[0]["extensions"][DRACO]["bufferView"])
+                said = subprocess.run([self.program, "info"], input=stream, stdout=subprocess.PIPE, check=True).stdout.decode().split("\n")[0]
+                self.tell(said.split()[-1] == wanted, f"a net of {2 * side * side} faces {words}: {said}")
+
+    def octahedral(self):
+        """By profile 3, which is what is taken without a word, normals are octahedral: the tool's integers, of 8 bits where no others are asked for; all else is as
+        by profile 2."""
+        path, names = self.save("two.glb", two().glb()), ("POSITION", "TEXCOORD_0")
+        packed, back, default = (path.parent / name for name in ("packed.glb", "back.glb", "default.glb"))
+        subprocess.run([TOOL, "pack", path, default, "--drc", self.program], stdout=subprocess.DEVNULL, check=True)
+        for words, bits in ((["--profile", "3"], 8), (["--profile", "3", "--qn", "11"], 11), (["--profile", "3", "--method", "seq"], 8), (["--profile", "3", "--predict", "diff"], 8)):
+            if self.done(f"{words}", "pack", path, packed, *words) is None or self.done(f"{words}", "unpack", packed, back) is None:
+                continue
+            given, again = Document(path), Document(back)
+            a, c = given.primitives()[0], again.primitives()[0]
+            mine, grids = on_grid(given.tables(a, names), [14, 12], position=given.grid(a))
+            vectors = unit_vectors(octahedral(given.rows(a["attributes"]["NORMAL"]), bits), bits)
+            there = [*on_grid(again.tables(c, names), [14, 12], grids)[0], again.rows(c["attributes"]["NORMAL"])]
+            self.tell(triangles([*mine, vectors], given.faces(a)) == triangles(there, again.faces(c)), f"{words}: the triangles, with the normals that the coordinates stand for")
+            if words == ["--profile", "3"]:
+                self.tell(default.read_bytes() == packed.read_bytes(), "without a word the profile is 3")
+        ran = self.tool("pack", path, packed, "--profile", "3", "--qn", "1")
+        self.tell(ran.returncode == 1 and b"2 to 30 bits" in ran.stderr, f"one octahedral bit: {ran.stderr}")
+
     def many_points(self):
         """More than 65,535 points have indices of 32 bits; `draco_decoder` reads them, and assimp's reader of these isn't asked."""
         points, faces = lattice(260)
@@ -593,7 +677,7 @@ class Tests:
         )
         self.refused("infinite positions", "pack", self.model("BoxWithInfinites-glTF-Binary/BoxWithInfinites.glb"), "POSITION", "inf")
         self.refused("a view beyond its buffer", "pack", self.model("IncorrectVertexArrays/Cube.gltf"), "bufferViews[2]", "buffers[0]")
-        self.refused("octahedral normals", "unpack", self.model("draco/2CylinderEngine.gltf"), "meshes[0].primitives[0]", "Octahedral")
+        self.done("octahedral normals", "unpack", self.model("draco/2CylinderEngine.gltf"), self.folder / "engine.glb")
         missing = self.tool("pack", self.model("MissingBin/BoxTextured.gltf"), self.folder / "out.glb")
         self.tell(missing.returncode == 3 and b"BoxTextured0.bin" in missing.stderr, "a missing buffer is status 3")
 
@@ -706,8 +790,20 @@ class Tests:
                 f"the tool's level {level}: the triangles",
             )
             self.tell(self.is_bounded(again, 0) and "min" in again.json["accessors"][0], f"the tool's level {level}: the bounds")
-        path = self.wrapped(self.encoded_there(bent, "-cl", "7"), {"POSITION": ("VEC3", 5126), "NORMAL": ("VEC3", 5126)})
-        self.refused("normals in octahedral coding", "unpack", path, "meshes[0].primitives[0]", "Octahedral")
+        stream = self.encoded_there(bent, "-cl", "7")
+        path = self.wrapped(stream, {"POSITION": ("VEC3", 5126), "NORMAL": ("VEC3", 5126)})
+        back = path.parent / "back.glb"
+        if self.done("normals in octahedral coding", "unpack", path, back) is not None:
+            again = Document(back)
+            tables = [again.rows(again.primitives()[0]["attributes"][name]) for name in ("POSITION", "NORMAL")]
+            coded = self.save("m.drc", stream)
+            subprocess.run(["draco_decoder", "-i", coded, "-o", coded.with_suffix(".ply")], stdout=subprocess.DEVNULL, check=True)
+            _, rows, corners = read_binary(coded.with_suffix(".ply").read_bytes())
+            there = np.array(rows, np.float32)
+            due = triangles([there[:, :3], there[:, 3:6]], np.array(corners))
+            self.tell(due == triangles(tables, again.faces(again.primitives()[0])), "normals in octahedral coding: the tool's floats")
+        path = self.wrapped(stream, {"POSITION": ("VEC3", 5126), "NORMAL": ("VEC2", 5126)})
+        self.refused("normals of two components", "unpack", path, "meshes[0].primitives[0]", "NORMAL", "VEC2")
         path = self.wrapped(self.encoded_there(plain, "-cl", "7"), {"POSITION": ("VEC2", 5126)})
         self.refused("another type", "unpack", path, "meshes[0].primitives[0]", "POSITION", "VEC2")
         path = self.wrapped(self.encoded_there(plain, "-cl", "7"), {"POSITION": ("VEC3", 5126), "COLOR_0": ("VEC3", 5121)})
@@ -754,6 +850,9 @@ def main():
             tests.open_documents,
             tests.morphs,
             tests.degenerate,
+            tests.borders,
+            tests.methods,
+            *[tests.octahedral] * Drc(program).writes_profile_three(),
             tests.many_points,
             tests.bad,
         ]
@@ -761,6 +860,8 @@ def main():
             part()
         if MODELS.is_dir():
             tests.models()
+    if not Drc(program).writes_profile_three():
+        print("octahedral normals are left out, since this program doesn't write profile 3")
     if not MODELS.is_dir():
         print("the models of assimp-testmodels are left out, which is missing")
     if not shutil.which("draco_encoder"):

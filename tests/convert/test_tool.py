@@ -14,6 +14,7 @@ import mesh_cases  # noqa: F401  (which says where numpy is missing)
 import numpy as np
 from drcfiles import plytext
 from drcfiles.reading import ply as ply_reader
+from shapes import coated, coated_clouds
 from mesh_cases import METHODS, Made, coloured, corner_rows, made, run, scan_like, scans, turned, unwrapped
 
 
@@ -47,6 +48,11 @@ def the_tools_floats(tests, name, source, words):
     """draco_decoder reads a packed file to the floats that drc-unpack gives, bit for bit, triangle by triangle."""
     title = f"{name} {' '.join(words)}: the tool's floats"
     stream = tests.packed(title, source, *words)
+    unpacked_as_there(tests, title, stream)
+
+
+def unpacked_as_there(tests, title, stream):
+    """drc-unpack gives the floats of draco_decoder of a stream, if it is there, bit for bit, triangle by triangle."""
     back = stream and tests.unpacked(title, stream)
     if not back:
         return
@@ -111,8 +117,30 @@ def the_tool(tests):
         the_tools_floats(tests, "cloud", tests.file("cloud.ply", (head + "end_header\n" + cloud).encode()), words)
 
 
+def normals_of_the_tool(tests):
+    """The tool's files with normals and texture coordinates, smooth and with seams, are unpacked to the floats of draco_decoder, bit for bit."""
+    if not (shutil.which("draco_encoder") and shutil.which("draco_decoder")):
+        tests.skip("the tool's normals", "draco")
+        return
+    names = ("grid", "torus", "holes", "seams", "soup 3", "book 3")
+    for shape in [it for it in coated() if it.name.split(" with ")[0] in names]:
+        for level, bits in ((0, 8), (5, 2), (7, 10), (10, 30)):
+            theirs = tests.folder / "theirs.drc"
+            subprocess.run(["draco_encoder", "-i", str(tests.file("m.obj", shape.obj())), "-o", str(theirs), "-cl", str(level), "-qn", str(bits)],
+                           stdout=subprocess.DEVNULL, stderr=subprocess.DEVNULL, check=True)
+            unpacked_as_there(tests, f"the tool's {shape.name} -cl {level} -qn {bits}", theirs)
+    for shape in coated_clouds():
+        for bits in (2, 8, 17, 30):
+            theirs = tests.folder / "theirs.drc"
+            source = tests.file("m.ply", shape.ply())
+            subprocess.run(["draco_encoder", "-point_cloud", "-i", str(source), "-o", str(theirs), "-cl", "0", "-qn", str(bits)],
+                           stdout=subprocess.DEVNULL, stderr=subprocess.DEVNULL, check=True)
+            unpacked_as_there(tests, f"the tool's {shape.name} -qn {bits}", theirs)
+
+
 def files_of_the_tool(tests):
-    """Which files of the tool are read, and by which kind the others are refused, as the table of docs/USAGE.md has it."""
+    """Which files of the tool are read, and by which kind the others are refused, as the table of docs/USAGE.md has it: without the option, and by
+    `--profile 3`, which reads octahedral normals and predictions by positions too."""
     if not shutil.which("draco_encoder"):
         tests.skip("which files of the tool are read", "draco")
         return
@@ -143,6 +171,10 @@ def files_of_the_tool(tests):
             else:
                 holds = ran.returncode == 0 and (wanted is None or f"element face {wanted}\n".encode() in ran.stdout)
             tests.tell(holds, f"the tool's {name} {' '.join(words)} -cl {level}: {wanted}: {ran.stderr.decode().strip()}")
+            by_three = tests.drc(["dec", "--profile", "3"], theirs.read_bytes())
+            is_read = by_three.returncode == 0 and (ran.returncode != 0 or by_three.stdout == ran.stdout)
+            holds = is_read if wanted in ("Octahedral", "Prediction") or ran.returncode == 0 else by_three.stderr == ran.stderr
+            tests.tell(holds, f"the tool's {name} {' '.join(words)} -cl {level}: by profile 3: {by_three.stderr.decode().strip()}")
 
 
-run(files_of_the_tool, the_tool)
+run(files_of_the_tool, normals_of_the_tool, the_tool)

@@ -17,7 +17,7 @@ HERE = pathlib.Path(__file__).resolve().parent
 sys.path[:0] = [str(HERE), str(HERE.parent / "shared")]
 
 import browser  # noqa: E402
-from shapes import Shape, lattice, read_text  # noqa: E402
+from shapes import Shape, lattice, on_square, read_text, with_heads  # noqa: E402
 
 TOOL = HERE.parents[1] / "convert" / "drc-view"
 STAGE = {"x": 8, "y": 8, "width": 564, "height": 552}  # of the picture, without the panel, the line of help, and the frame of the focus
@@ -198,6 +198,47 @@ class Tests:
         shown = self.page.run("Number(document.getElementById('order').value)")
         self.tell(0 < shown < 288, f"playing shows {shown} faces after a while")
 
+    def coated(self):
+        """The surface is shaded by the file's own normals, octahedral ones as plain ones; texture coordinates are a chequered pattern."""
+        points, faces = lattice(12)
+        flat = [row[:2] + (0,) for row in points]
+        charts = [(20 * x, 20 * y) for x, y, _ in flat]
+        columns = ("int x", "int y", "int z", "char nx", "char ny", "char nz")
+        in_three = ["--profile", "3", "--predict", "shape"]
+        shown = {}
+        for title, vector in (("towards", (0, 0, 1)), ("aside", (1, 0, 0))):
+            plain = Shape("", [row + vector for row in flat], faces, columns)
+            octahedral = with_heads("", flat, faces, (None, charts), (8, [on_square(vector, 8)] * len(flat)))
+            for kind, shape, words in (("plain", plain, []), ("octahedral", octahedral, in_three)):
+                path, said = self.view(f"{kind} {title}.drc", self.drc(["enc", *words], shape.ply()))
+                self.tell(said == "", f"{kind} {title}: {said}")
+                if not self.opened(f"{kind} {title}", path):
+                    return
+                self.set("colour", "0")
+                shown[kind, title] = self.picture()
+        for title in ("towards", "aside"):
+            one, other = shown["plain", title], shown["octahedral", title]
+            self.tell(differing(one, other) == 0, f"octahedral normals {title} shade as plain ones: {differing(one, other)} pixels")
+        self.changed("another normal", shown["octahedral", "towards"], shown["octahedral", "aside"])
+        self.patterns()
+        self.quiet("normals and texture coordinates")
+
+    def patterns(self):
+        """The colours by texture coordinates and by normals, and what the panel says of both."""
+        names = self.page.run("[...document.getElementById('colour').options].map(it => it.text)")
+        self.tell({"Texture coordinate", "Normal"} <= set(names), f"the colours: {names}")
+        self.set("colour", str(names.index("Texture coordinate")))
+        row = [it for it in self.picture()[140] if it != GROUND]
+        middle = sum(map(sum, row)) / max(1, len(row))
+        edges = sum((sum(one) > middle) != (sum(other) > middle) for one, other in zip(row, row[1:]))
+        self.tell(edges >= 6, f"texture coordinates are a chequered pattern: {edges} edges in a line of {len(row)} pixels")
+        self.set("colour", str(names.index("Normal")))
+        row = [it for it in self.picture()[140] if it != GROUND]
+        self.tell(row and all(red > green and red > blue for red, green, blue in row), f"a normal along x is red: {row[:3]}")
+        said = self.page.run("document.querySelector('aside').innerText")
+        wanted = ("8 bits", "normals by positions", "texture coordinates by positions")
+        self.tell(all(it in said for it in wanted), f"the panel lacks {[it for it in wanted if it not in said]}")
+
     def cloud(self):
         shape = Shape(
             "cloud", [(i * 37 % 101, i * 53 % 97, i * 71 % 89, i % 5) for i in range(600)], None, ["int x", "int y", "int z", "uchar label"]
@@ -319,7 +360,7 @@ def main():
         with browser.Browser(900, 600) as page:
             resize(page)
             tests = Tests(str(pathlib.Path(program).resolve()), folder, page)
-            for part in (tests.mesh, tests.cloud, tests.refused, tests.odd, tests.troubles):
+            for part in (tests.mesh, tests.coated, tests.cloud, tests.refused, tests.odd, tests.troubles):
                 part()
         without_graphics(tests, folder)
         print(f"{tests.passed} passed, {tests.failed} failed")

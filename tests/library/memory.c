@@ -56,7 +56,8 @@ static size_t values_of(const drc_geometry *geometry) {
 /* Encodes a geometry so often. */
 static int encode_often(const drc_geometry *geometry, int count) {
     const drc_shape *shape = &geometry->shape;
-    drc_options options = {0, 0, 0, 0, 0};
+    drc_options options;
+    memset(&options, 0, sizeof options);
     for (int k = 0; k < count; k++) {
         drc_stream stream;
         drc_fault fault;
@@ -78,7 +79,7 @@ int main(int count, char **words) {
     drc_fault fault;
     const long before = held("VmRSS:");
     for (int k = 0; k < decodings; k++) {
-        if (drc_decode(bytes, length, &geometries[k], &fault) != DRC_DONE) return 1;
+        if (drc_decode(bytes, length, 2, &geometries[k], &fault) != DRC_DONE) return 1;
         if (!keeps && !encodes) drc_free(&geometries[k]);
     }
     const size_t arrays = 12 * (size_t)geometries[0].shape.faces + 4 * values_of(&geometries[0]);

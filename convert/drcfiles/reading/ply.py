@@ -274,11 +274,13 @@ def heads_kept(path, table, comments):
         for words in comments:
             if words[0] == "attr":
                 heads.append(Head(*map(int, words[2:7])))
+            elif words[0] == "octa":
+                heads[int(words[1])].octa = int(words[2])
             elif words[0] == "quant":
                 heads[int(words[1])].grid = Grid(int(words[2]), float_of(words[3]), np.array([float_of(it) for it in words[4:]], np.float32))
     except (ValueError, IndexError, TypeError):
         raise Trouble(f"{path}: a comment `drc {' '.join(words)[:60]}` breaks the rules of docs/PLY.md") from None
-    if sum(it.comps for it in heads) != len(names) or any((it.dtype == QUANTISED) != (it.grid is not None) for it in heads):
+    if sum(it.comps for it in heads) != len(names) or any((it.dtype == QUANTISED) != it.has_floats for it in heads):
         raise Trouble(f"{path}: the comments `drc attr` don't fit the properties, by the rules of docs/PLY.md")
     made, column = [], 0
     for head in heads:

@@ -3,3 +3,4 @@ pub mod Passing
 pub mod Widths
 pub mod Types
 pub mod HeadsBack
+pub mod ProfileHeads

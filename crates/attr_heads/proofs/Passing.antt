@@ -10,38 +10,45 @@ use Rattle.drc_base.specs.declared.limits.TheConstants.{MAX_ATTRIBUTES, MAX_COMP
 use Rattle.attr_heads.specs.declared.heads.Head.{Head}
 use Rattle.attr_heads.specs.FirstFault.{unless}
 use Rattle.attr_heads.specs.Quants.{has_minima, has_bits}
+use Rattle.attr_heads.specs.Octahedra.{has_coordinates, has_square_bits}
 use Rattle.attr_heads.specs.Head.{has_type, head_fault, each_fault, heads_fault}
 use Rattle.attr_heads.proofs.FirstFaults.{unless-none, first_fault-none}
 
 -- what a head that passes says
 pub record HeadSays (h : Head) : Type 0 where
   pub usage : h.usage ≤ 4
-  pub typed : has_type h.dtype h.quant ≡ true
+  pub typed : has_type h.dtype h.quant h.octa ≡ true
   pub some : 1 ≤ h.comps
   pub few : h.comps ≤ MAX_COMPONENTS
   pub minima : has_minima h.comps h.quant ≡ true
+  pub coordinates : has_coordinates h.comps h.octa ≡ true
   pub bits : has_bits h.quant ≡ true
+  pub square : has_square_bits h.octa ≡ true
 
-head_says : (k : ℕ) (h : Head) → head_fault k h ≡ None → HeadSays h
+pub head_says : (k : ℕ) (h : Head) → head_fault k h ≡ None → HeadSays h
 head_says k h e =
     let t1 = unless (leb h.usage 4) AttrType k in
-    let t2 = unless (has_type h.dtype h.quant) DataType k in
-    let c = leb 1 h.comps && leb h.comps MAX_COMPONENTS && has_minima h.comps h.quant in
+    let t2 = unless (has_type h.dtype h.quant h.octa) DataType k in
+    let c = leb 1 h.comps && leb h.comps MAX_COMPONENTS && (has_minima h.comps h.quant && has_coordinates h.comps h.octa) in
     let t3 = unless c Components k in
-    let t4 = unless (has_bits h.quant) QuantBits k in
+    let t4 = unless (has_bits h.quant && has_square_bits h.octa) QuantBits k in
     let a = first_fault-none t1 (t2 ∷ t3 ∷ t4 ∷ []) e in
     let b = first_fault-none t2 (t3 ∷ t4 ∷ []) a.1 in
     let d = first_fault-none t3 (t4 ∷ []) b.1 in
     let f = first_fault-none t4 [] d.1 in
-    let p = and_parts (leb 1 h.comps && leb h.comps MAX_COMPONENTS) (has_minima h.comps h.quant) (unless-none c Components k d.0) in
+    let p = and_parts (leb 1 h.comps && leb h.comps MAX_COMPONENTS) (has_minima h.comps h.quant && has_coordinates h.comps h.octa) (unless-none c Components k d.0) in
+    let m = and_parts (has_minima h.comps h.quant) (has_coordinates h.comps h.octa) p.1 in
+    let s = and_parts (has_bits h.quant) (has_square_bits h.octa) (unless-none (has_bits h.quant && has_square_bits h.octa) QuantBits k f.0) in
     let q = and_parts (leb 1 h.comps) (leb h.comps MAX_COMPONENTS) p.0 in
     record {
       usage = leb-true h.usage 4 (unless-none (leb h.usage 4) AttrType k a.0);
-      typed = unless-none (has_type h.dtype h.quant) DataType k b.0;
+      typed = unless-none (has_type h.dtype h.quant h.octa) DataType k b.0;
       some = leb-true 1 h.comps q.0;
       few = leb-true h.comps MAX_COMPONENTS q.1;
-      minima = p.1;
-      bits = unless-none (has_bits h.quant) QuantBits k f.0;
+      minima = m.0;
+      coordinates = m.1;
+      bits = s.0;
+      square = s.1;
     }
 
 abbrev faults : ℕ → List Head → List (Option Fault)

@@ -29,16 +29,21 @@ integer_no_float dtype is = go (type_of dtype) is where
   go (Some Uint32) is = refl
   go (Some Float32) is = cc
 
--- the type of an attribute that has the quantisation that is due is accepted
-pub type_passes : (dtype : ℕ) (quant : Option Quant) → has_type dtype quant ≡ true → is_type dtype ≡ true
-type_passes dtype None is = go (type_of dtype) is where
-  go : (t : Option DataType) → integer_in t ≡ true → is_some t ≡ true
-  go None is = cc
-  go (Some t) is = refl
-type_passes dtype (Some q) is = go (type_of dtype) is where
-  go : (t : Option DataType) → float_in t ≡ true → is_some t ≡ true
-  go None is = cc
-  go (Some t) is = refl
+-- the type of an attribute that has what is due of a quantisation and a square is accepted
+pub type_passes : (dtype : ℕ) (quant : Option Quant) (octa : Option ℕ) → has_type dtype quant octa ≡ true → is_type dtype ≡ true
+type_passes dtype None None is = integer_is (type_of dtype) is where
+  integer_is : (t : Option DataType) → integer_in t ≡ true → is_some t ≡ true
+  integer_is None is = cc
+  integer_is (Some t) is = refl
+type_passes dtype None (Some bits) is = float_is (type_of dtype) is where
+  float_is : (t : Option DataType) → float_in t ≡ true → is_some t ≡ true
+  float_is None is = cc
+  float_is (Some t) is = refl
+type_passes dtype (Some q) None is = float_is (type_of dtype) is where
+  float_is : (t : Option DataType) → float_in t ≡ true → is_some t ≡ true
+  float_is None is = cc
+  float_is (Some t) is = refl
+type_passes dtype (Some q) (Some bits) is = cc
 
 -- what is found has the byte that was looked for
 found_byte : (ts : List DataType) (dtype : ℕ) (t : DataType) → find (λ u. byte_of u == dtype) ts ≡ Some t → byte_of t ≡ dtype

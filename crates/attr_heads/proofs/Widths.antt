@@ -1,4 +1,4 @@
--- The data types and the width of the heads so far.
+-- The bounds and the width of the heads so far.
 use Rattle.std.proofs.Common.{◌≡◌, ℕ, ◌+◌, ◌<◌, ◌≤◌, ◌*◌, leb, None, List, [], ◌∷◌, ◌++◌, length, get_or, take, replicate, ap, ◌∙◌, sym, subst, arith}
 use Rattle.std.proofs.lemmas.List.{take_more, append-nil}
 use Rattle.std.proofs.lemmas.List.Sums.{sum_by_more, sum_by-take-le, sum_by-cons}
@@ -6,17 +6,18 @@ use Rattle.std.proofs.lemmas.List.Concat.{flat_map-append}
 use Rattle.attr_heads.specs.declared.heads.Head.{Head}
 use Rattle.std.proofs.lemmas.Bool.{and_parts, leb-true}
 use Rattle.drc_base.specs.declared.kinds.Kind.TheVariants.{NoAttribute, AttrLimit, AttrType, DataType, Components}
+use Rattle.attr_heads.specs.Bounds.{bounds_of}
 use Rattle.attr_heads.specs.FirstFault.{unless}
-use Rattle.attr_heads.specs.Head.{types_of, width_of, has_type, head_fault, each_fault, heads_fault}
+use Rattle.attr_heads.specs.Head.{row_bounds, width_of, has_type, head_fault, each_fault, heads_fault}
 use Rattle.attr_heads.proofs.FirstFaults.{unless-none, first_fault-none}
 
--- one more head has its data type once for each component
-pub types_of-more : (heads : List Head) (i : ℕ) (h : Head) → i < length heads → h ≡ get_or heads i h → types_of (take (i + 1) heads) ≡ types_of (take i heads) ++ replicate h.comps h.dtype
-types_of-more heads i h inside is =
-    ap types_of (take_more heads i h inside)
-    ∙ flat_map-append (λ (g : Head). replicate g.comps g.dtype) (take i heads) (get_or heads i h ∷ [])
-    ∙ ap (λ xs. types_of (take i heads) ++ xs) (append-nil (replicate (get_or heads i h).comps (get_or heads i h).dtype))
-    ∙ ap (λ (g : Head). types_of (take i heads) ++ replicate g.comps g.dtype) (sym is)
+-- one more head has its bounds once for each component
+pub row_bounds-more : (heads : List Head) (i : ℕ) (h : Head) → i < length heads → h ≡ get_or heads i h → row_bounds (take (i + 1) heads) ≡ row_bounds (take i heads) ++ replicate h.comps (bounds_of h)
+row_bounds-more heads i h inside is =
+    ap row_bounds (take_more heads i h inside)
+    ∙ flat_map-append (λ (g : Head). replicate g.comps (bounds_of g)) (take i heads) (get_or heads i h ∷ [])
+    ∙ ap (λ xs. row_bounds (take i heads) ++ xs) (append-nil (replicate (get_or heads i h).comps (bounds_of (get_or heads i h))))
+    ∙ ap (λ (g : Head). row_bounds (take i heads) ++ replicate g.comps (bounds_of g)) (sym is)
 
 -- one more head adds its components to the width
 pub width_of-more : (heads : List Head) (i : ℕ) (h : Head) → i < length heads → h ≡ get_or heads i h → width_of (take (i + 1) heads) ≡ width_of (take i heads) + h.comps
@@ -31,7 +32,7 @@ width_of-take_le heads i = sum_by-take-le (λ (g : Head). g.comps) heads i
 head_fault-comps : (k : ℕ) (h : Head) → head_fault k h ≡ None → (1 ≤ h.comps) × (h.comps ≤ 8)
 head_fault-comps k h e =
     let usage = first_fault-none (unless (leb h.usage 4) AttrType k) _ e in
-    let types = first_fault-none (unless (has_type h.dtype h.quant) DataType k) _ usage.1 in
+    let types = first_fault-none (unless (has_type h.dtype h.quant h.octa) DataType k) _ usage.1 in
     let comps = and_parts _ _ (unless-none _ Components k (first_fault-none _ _ types.1).0) in
     let bounds = and_parts _ _ comps.0 in
     (leb-true 1 h.comps bounds.0, leb-true h.comps 8 bounds.1)

@@ -1,6 +1,6 @@
 -- The data types of attributes, each by its row of one table (Draco Bitstream Specification 2.2, section "Attributes Decoder"; which
 -- are accepted, and which integers, is this project's choice).
-use Rattle.std.specs.Prelude.{ℕ, ◌==◌, ◌&&◌, Bool, true, false, not, ℤ, pos, negsuc, List, [], ◌∷◌, find, Option, None, Some, is_some, int_le}
+use Rattle.std.specs.Prelude.{ℕ, ◌==◌, Bool, true, false, not, ℤ, pos, negsuc, List, [], ◌∷◌, find, Option, None, Some, is_some}
 use Rattle.attr_heads.specs.declared.data_types.TypeFacts.{TypeFacts}
 use Rattle.attr_heads.specs.declared.data_types.DataType.{DataType}
 use Rattle.attr_heads.specs.declared.data_types.DataType.TheVariants.{Int8, Uint8, Int16, Uint16, Int32, Uint32, Float32}
@@ -61,7 +61,3 @@ least_of dtype = least_in (type_of dtype)
 
 abbrev pub greatest_of : ℕ → ℤ
 greatest_of dtype = greatest_in (type_of dtype)
-
--- an attribute of this type may have this integer
-unfoldable pub in_type : ℕ → ℤ → Bool
-in_type dtype value = int_le (least_of dtype) value && int_le value (greatest_of dtype)

@@ -2,6 +2,9 @@ pub mod FirstFault
 pub mod DataTypes
 pub mod Usages
 pub mod Quants
+pub mod Octahedra
+pub mod Bounds
 pub mod Head
 pub mod Codings
 pub mod HeadItems
+pub mod ProfileHeads

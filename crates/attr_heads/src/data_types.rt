@@ -1,7 +1,7 @@
 //! The data types of attributes, each by its row of one table.
 
 ghost use Rattle.std.specs.Prelude.{◌≡◌};
-ghost use Rattle.attr_heads.specs.DataTypes.{type_facts, type_of, is_type, is_float, is_integer, least_of, greatest_of, in_type};
+ghost use Rattle.attr_heads.specs.DataTypes.{type_facts, type_of, is_type, is_float, is_integer, least_of, greatest_of};
 
 /// The data type of an attribute (Draco Bitstream Specification 2.2, section "Attributes Decoder"; which are accepted is this
 /// project's choice).
@@ -120,12 +120,4 @@ pub fn greatest_of(dtype: u8) -> i32
         None => 0x7fff_ffff,
         Some(t) => t.facts().greatest,
     }
-}
-
-/// Whether an attribute of this type may have this integer.
-#[tactic(auto, unfolding(crate::specs::DataTypes::in_type))]
-pub fn in_type(dtype: u8, value: i32) -> bool
-    ensures { result ≡ in_type dtype value }
-{
-    least_of(dtype) <= value && value <= greatest_of(dtype)
 }

@@ -1,11 +1,15 @@
 //! The heads of attributes: what the integers of each are.
 
-ghost use Rattle.std.specs.Prelude.{◌≡◌, ◌<◌, ◌≤◌, None, IsOk, IfOk, OnOk, length};
+ghost use Rattle.std.specs.Prelude.{◌≡◌, ◌<◌, ◌≤◌, None, IsTrue, IsOk, IfOk, OnOk, length};
 ghost use Rattle.attr_heads.specs.FirstFault.{Tests};
 ghost use Rattle.attr_heads.specs.Quants.{has_minima, has_bits};
+ghost use Rattle.attr_heads.specs.Octahedra.{has_coordinates, has_square_bits};
+ghost use Rattle.attr_heads.specs.Bounds.{bounds_of};
 ghost use Rattle.attr_heads.specs.Head.{has_type, has_comps, head_fault, each_fault, heads_fault, width_of};
 
+use crate::bounds::Bounds;
 use crate::data_types::{is_float, is_integer};
+use crate::octahedra::{OCTAHEDRAL_INTEGERS, are_octahedral_bits, square_bounds};
 use crate::quants::{Quant, are_quant_bits};
 use crate::usages::is_usage;
 use drc_base::{Fault, Kind, MAX_ATTRIBUTES, MAX_COMPONENTS, Memory};
@@ -16,8 +20,8 @@ use std::alloc::Global;
 pub struct Head {
     /// 0 position, 1 normal, 2 colour, 3 texture coordinate, 4 generic.
     pub usage: u8,
-    /// 1 int8, 2 uint8, 3 int16, 4 uint16, 5 int32, 6 uint32 (values up to 2^31 - 1), 9 quantised
-    /// float32.
+    /// 1 int8, 2 uint8, 3 int16, 4 uint16, 5 int32, 6 uint32 (values up to 2^31 - 1), 9 float32,
+    /// quantised or octahedral.
     pub dtype: u8,
     /// Integers of one point, 1 to 8.
     pub comps: u8,
@@ -25,8 +29,11 @@ pub struct Head {
     pub normalized: u8,
     /// The attribute's own id, carried as it is.
     pub id: u32,
-    /// The quantisation, exactly where `dtype` is 9.
+    /// The quantisation of floats; where `dtype` is 9 there is either one or a square, and else neither.
     pub quant: Option<Quant>,
+    /// The bits, 2 to 30, of the two coordinates in the square that unit vectors stand for, where `dtype` is 9 and the attribute is
+    /// octahedral (0 while a stream's decoder hasn't been read to its end).
+    pub octa: Option<u8>,
 }
 
 impl Head {
@@ -46,15 +53,48 @@ impl Head {
             normalized: self.normalized,
             id: self.id,
             quant,
+            octa: self.octa,
         })
     }
 
-    fn has_type(&self) -> bool
-        ensures { result ≡ has_type self.now.dtype self.now.quant }
+    /// Whether the attribute has a quantisation or a square exactly as its data type asks.
+    pub fn has_type(&self) -> bool
+        ensures { result ≡ has_type self.now.dtype self.now.quant self.now.octa }
     {
-        match &self.quant {
-            None => is_integer(self.dtype),
-            Some(_) => is_float(self.dtype),
+        match (self.quant.is_some(), self.octa.is_some()) {
+            (false, false) => is_integer(self.dtype),
+            (false, true) => is_float(self.dtype),
+            (true, false) => is_float(self.dtype),
+            (true, true) => false,
+        }
+    }
+
+    /// The bounds of the attribute's integers.
+    pub fn bounds(&self) -> Bounds
+        requires { IsTrue (has_square_bits self.now.octa) }
+        ensures { result ≡ bounds_of self.now }
+    {
+        match self.octa {
+            None => Bounds::of_type(self.dtype),
+            Some(bits) => square_bounds(bits),
+        }
+    }
+
+    fn has_coordinates(&self) -> bool
+        ensures { result ≡ has_coordinates self.now.comps self.now.octa }
+    {
+        match self.octa {
+            None => true,
+            Some(_) => self.comps == OCTAHEDRAL_INTEGERS,
+        }
+    }
+
+    fn has_square_bits(&self) -> bool
+        ensures { result ≡ has_square_bits self.now.octa }
+    {
+        match self.octa {
+            None => true,
+            Some(bits) => are_octahedral_bits(bits),
         }
     }
 
@@ -107,10 +147,10 @@ fn test_head(k: usize, head: &Head) -> Result<(), Fault>
     if !head.has_type() {
         return Err(Fault::new(Kind::DataType, at));
     }
-    if !has_comps(head.comps) || !head.has_minima() {
+    if !has_comps(head.comps) || !head.has_minima() || !head.has_coordinates() {
         return Err(Fault::new(Kind::Components, at));
     }
-    if !head.has_bits() {
+    if !head.has_bits() || !head.has_square_bits() {
         return Err(Fault::new(Kind::QuantBits, at));
     }
     Ok(())

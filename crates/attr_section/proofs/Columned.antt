@@ -3,7 +3,7 @@ use Rattle.std.proofs.Common.{◌≡◌, ℕ, ◌+◌, ◌*◌, ◌<◌, List, [
 use Rattle.std.proofs.lemmas.List.{take_more, map-append}
 use Rattle.attr_heads.specs.declared.heads.Head.{Head}
 use Rattle.attr_section.specs.declared.values.Values.{Values}
-use Rattle.attr_section.specs.Values.{AreColumns, comps_of}
+use Rattle.attr_section.specs.Attributes.{AreColumns, comps_of}
 
 AreColumns-push : (n : ℕ) (heads : List Head) (values : List Values) (h : Head) (v : Values) → AreColumns n heads values → length v.values ≡ n * h.comps
     → AreColumns n (heads ++ h ∷ []) (values ++ v ∷ [])
@@ -42,3 +42,10 @@ pub comps_of-next : (k : ℕ) (heads others : List Head) (h o : Head) → comps_
     → h ≡ get_or heads k h → o.comps ≡ h.comps → comps_of (others ++ o ∷ []) ≡ comps_of (take (k + 1) heads)
 comps_of-next k heads others h o same has is comps =
     rw (take_more heads k h has, ← is, map-append (λ (x : Head). x.comps) others (o ∷ []), map-append (λ (x : Head). x.comps) (take k heads) (h ∷ []), same, comps) refl
+
+-- there are as many values as heads
+pub AreColumns-length : (n : ℕ) (heads : List Head) (values : List Values) → AreColumns n heads values → length values ≡ length heads
+AreColumns-length n [] [] are = refl
+AreColumns-length n [] (v ∷ values) are = absurd are
+AreColumns-length n (h ∷ heads) [] are = absurd are
+AreColumns-length n (h ∷ heads) (v ∷ values) are = let rest = AreColumns-length n heads values are.1 in omega (arith, rest)

@@ -10,5 +10,11 @@ pub mod SpelledIntegers
 pub mod SpelledFlags
 pub mod SpelledCorrections
 pub mod SpelledValues
+pub mod SpelledSquares
+pub mod SpelledTexture
 pub mod Spelling
 pub mod Examples
+pub mod Completed
+pub mod PositionsRead
+pub mod Corrections
+pub mod ProfileHeads

@@ -15,7 +15,7 @@ use Rattle.corner_table.specs.Ordered.{Ordered}
 use Rattle.predict.specs.Surfaces.{surface_or, lacks_surface, CanStand}
 use Rattle.predict.specs.Foretold.{foretold, restored_with}
 use Rattle.attr_section.specs.Values.{integers_at, transform_at, behind_at, restored_at, corrected_at, predicted_at}
-use Rattle.attr_section.specs.Written.{integers_bytes, range_of, behind_bytes, flagged_bytes, corrected_bytes, predicted_bytes}
+use Rattle.attr_section.specs.WrittenParts.{integers_bytes, range_of, behind_bytes, flagged_bytes, corrected_bytes, predicted_bytes}
 use Rattle.attr_section.proofs.SpelledIntegers.{Spells-corrections}
 
 -- what stands behind the corrections, and the values that are restored by it
@@ -30,7 +30,7 @@ Spells-restored at w q comps lists r cs values back behind = record {
 }
 
 -- the byte of a transform
-Spells-transform : Spells transform_at (transform_byte transform.Wrap ∷ []) transform.Wrap
+pub Spells-transform : Spells transform_at (transform_byte transform.Wrap ∷ []) transform.Wrap
 unfolding transform_at
 Spells-transform = record { reads = λ place rest. rw ((Spells-byte 1).reads place rest) refl }
 

@@ -22,7 +22,7 @@ use Rattle.predict.specs.Multi.{wanted}
 use Rattle.predict.specs.Foretold.{marks_of, wanted_of}
 use Rattle.predict.proofs.Foretold.{length-marks, length-mark, wanted_most, wanted_in, wanted_nowhere, flags_stand}
 use Rattle.attr_section.specs.Values.{range_at, flag_bits_at, flag_count_at, flags_at, flag_lists_at, behind_at}
-use Rattle.attr_section.specs.Written.{flag_bits_bytes, flags_bytes, range_bytes, HasFewFlags, MayHaveFewFlags, FlagsSpelled, BehindSpelled}
+use Rattle.attr_section.specs.WrittenParts.{flag_bits_bytes, flags_bytes, range_bytes, HasFewFlags, MayHaveFewFlags, FlagsSpelled, BehindSpelled}
 use Rattle.attr_section.proofs.Spelling.{Spells-map}
 use Rattle.attr_section.proofs.SpelledIntegers.{Spells-all}
 

@@ -19,7 +19,7 @@ use Rattle.predict.proofs.Restoring.{length-corrections}
 use Rattle.symbol_coding.specs.Block.{block_at, block_bytes}
 use Rattle.attr_section.specs.Values.{signed_of, plain_value_at, byte_width_at, plain_values_at, compressed_values_at, integers_at, can_wrap, range_at}
 use Rattle.predict.specs.Symbols.{zigzag_of}
-use Rattle.attr_section.specs.Written.{greatest_symbol, byte_width, plain_bytes, symbols_bytes, integers_bytes, range_of, signed_bytes, range_bytes}
+use Rattle.attr_section.specs.WrittenParts.{greatest_symbol, byte_width, plain_bytes, symbols_bytes, integers_bytes, range_of, signed_bytes, range_bytes}
 use Rattle.attr_section.proofs.Spelling.{Spells-map}
 
 -- a symbol gives its integer back

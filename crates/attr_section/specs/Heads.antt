@@ -4,13 +4,14 @@ use Rattle.std.specs.Prelude.{◌≡◌, ◌≤◌, ◌<◌, ℕ, ◌+◌, ◌==
 use Rattle.std.specs.Prelude.{replicate, Option, None, Some, Ok, sum_by, nat_le, nat_lt, if◌then◌else◌, All, flat_map}
 use Rattle.std.specs.List.{list_any, range_with_len}
 use Rattle.drc_base.specs.declared.kinds.Kind.TheVariants as kind
-use Rattle.drc_base.specs.declared.limits.TheConstants.{MAX_ATTRIBUTES, MAX_COMPONENTS}
-use Rattle.drc_base.specs.declared.kinds.Kind.{Kind}
-use Rattle.drc_base.specs.Profile.{Profile, profile}
+use Rattle.drc_base.specs.declared.limits.TheConstants.{MAX_ATTRIBUTES}
+use Rattle.drc_base.specs.Profile.{Profile, profile_numbered}
 use Rattle.drc_base.specs.Steps.{◌>>=◌}
 use Rattle.attr_heads.specs.declared.heads.Head.{Head}
 use Rattle.attr_heads.specs.declared.codings.Coding.{Coding}
-use Rattle.attr_heads.specs.Codings.{coding_facts, coding_of, coding_byte}
+use Rattle.attr_heads.specs.Codings.{coding_facts, coding_of, coding_byte, goes_with, coded, head_coding}
+use Rattle.attr_heads.specs.DataTypes.{is_float}
+use Rattle.attr_heads.specs.declared.octahedra.TheConstants.{OCTAHEDRAL_INTEGERS}
 use Rattle.attr_heads.specs.HeadItems.{head_at, head_bytes, bare_head, HeadPasses}
 use Rattle.drc_bits.specs.Reading.{Reading, Item, must, many_at, fault_at}
 use Rattle.drc_bits.specs.Numbers.{number_at}
@@ -70,27 +71,26 @@ unfoldable pub links_at : Option ℕ → ℕ → Reading → Item (List Link)
 links_at None n c = Ok (replicate n no_link, c)
 links_at (Some attr_data) n c = linked_at attr_data n c
 
--- the kind of fault that refuses a coding which a profile doesn't have
-abbrev pub unread_as : Profile → Option Coding → Option Kind
-unread_as p None = Some kind.Coding
-unread_as p (Some q) = if nat_le (coding_facts q).since p.number then None else Some (coding_facts q).refused_as
+-- a coding that a profile has; any other is refused at its byte
+abbrev pub tested_coding : Profile → Reading → Option Coding → Reading → Item Coding
+tested_coding p c None after = fault_at kind.Coding c
+tested_coding p c (Some q) after = if nat_le (coding_facts q).since p.number then Ok (q, after) else fault_at (coding_facts q).refused_as c
 
--- an item, unless it is refused at its own place
-abbrev pub unless_refused : Reading → ℕ × Reading → Option Kind → Item ℕ
-unless_refused c k None = Ok k
-unless_refused c k (Some refused) = fault_at refused c
+-- a coding that a profile has
+unfoldable pub known_coding_at : Profile → Reading → Item Coding
+known_coding_at p c = number_at 1 c >>= λ k. tested_coding p c (coding_of k.0) k.1
 
--- the byte of a coding that a profile has
-unfoldable pub known_coding_at : Profile → Reading → Item ℕ
-known_coding_at p c = number_at 1 c >>= λ k. unless_refused c k (unread_as p (coding_of k.0))
+-- the coding of an attribute with this head
+unfoldable pub coding_at : Profile → Head → Reading → Item Coding
+coding_at p h c = must kind.Coding (λ q. goes_with q h) (known_coding_at p) c
 
--- the coding of an attribute of this type
-unfoldable pub coding_at : ℕ → Reading → Item ℕ
-coding_at dtype c = must kind.Coding (λ k. k == coding_byte dtype) (known_coding_at profile) c
+-- a head by its coding
+unfoldable pub coded_at : Profile → Head → Reading → Item Head
+coded_at p h c = coding_at p h c >>= λ q. Ok (coded q.0 h, q.1)
 
--- the codings of attributes
-abbrev pub codings_at : List Head → Reading → Item (List ℕ)
-codings_at heads c = each_at (λ _ h. coding_at h.dtype) [] heads c
+-- heads by their codings
+abbrev pub codings_at : Profile → List Head → Reading → Item (List Head)
+codings_at p heads c = each_at (λ _ h. coded_at p h) [] heads c
 
 -- how many attributes decoders have
 abbrev pub attributes_of : List DecoderHead → ℕ
@@ -102,23 +102,23 @@ attribute_count_at before c =
     must kind.AttrLimit (λ n. nat_le (before + n) MAX_ATTRIBUTES) (must kind.NoAttribute (λ n. nat_lt 0 n) var32_at) c
 
 -- a decoder of this link, behind so many attributes
-unfoldable pub decoder_at : ℕ → Link → Reading → Item DecoderHead
-decoder_at before link c = do
+unfoldable pub decoder_at : Profile → ℕ → Link → Reading → Item DecoderHead
+decoder_at p before link c = do
   n ← attribute_count_at before c
   heads ← many_at head_at n.0 n.1
-  codings ← codings_at heads.0 heads.1
-  Ok (record { data_id = link.data_id; corner = link.corner; degree = link.degree; heads = heads.0 }, codings.1)
+  coded ← codings_at p heads.0 heads.1
+  Ok (record { data_id = link.data_id; corner = link.corner; degree = link.degree; heads = coded.0 }, coded.1)
 
 -- the decoders of these links
-unfoldable pub decoders_at : List Link → Reading → Item (List DecoderHead)
-decoders_at links c = each_at (λ before link. decoder_at (attributes_of before) link) [] links c
+unfoldable pub decoders_at : Profile → List Link → Reading → Item (List DecoderHead)
+decoders_at p links c = each_at (λ before link. decoder_at p (attributes_of before) link) [] links c
 
 -- the heads of all decoders; under Edgebreaker there are so many attribute data
-unfoldable pub heads_at : Option ℕ → Reading → Item (List DecoderHead)
-heads_at attr_data c = do
+unfoldable pub heads_at : Profile → Option ℕ → Reading → Item (List DecoderHead)
+heads_at p attr_data c = do
   n ← decoder_count_at c
   links ← links_at attr_data n.0 n.1
-  decoders_at links.0 links.1
+  decoders_at p links.0 links.1
 
 -- the byte of a data id
 abbrev pub id_byte : Option ℕ → ℕ
@@ -131,7 +131,7 @@ link_bytes d = id_byte d.data_id ∷ (if d.corner then 1 else 0) ∷ (if d.degre
 
 -- the bytes of a decoder's heads: their number, the heads, their codings
 abbrev pub decoder_bytes : DecoderHead → List ℕ
-decoder_bytes d = spelling 5 (length d.heads) ++ (flat_map head_bytes d.heads ++ map (λ h. coding_byte h.dtype) d.heads)
+decoder_bytes d = spelling 5 (length d.heads) ++ (flat_map head_bytes d.heads ++ map coding_byte d.heads)
 
 -- the bytes of the links, which stand under Edgebreaker alone
 abbrev pub links_bytes : Bool → List DecoderHead → List ℕ
@@ -141,7 +141,7 @@ links_bytes eb decoders = if eb then flat_map link_bytes decoders else []
 unfoldable pub heads_bytes : Bool → List DecoderHead → List ℕ
 heads_bytes eb decoders = length decoders ∷ links_bytes eb decoders ++ flat_map decoder_bytes decoders
 
--- a decoder without the quantisations of its heads
+-- a decoder without what stands at its end for its heads
 abbrev pub bare_decoder : DecoderHead → DecoderHead
 bare_decoder d = record d { heads = map bare_head d.heads }
 
@@ -149,10 +149,16 @@ bare_decoder d = record d { heads = map bare_head d.heads }
 abbrev pub link_of : DecoderHead → Link
 link_of d = record { data_id = d.data_id; corner = d.corner; degree = d.degree }
 
+-- a head whose square, where there is one, its coding can say: that of points of two integers, whose type is that of floats
+abbrev pub HasSquareType : Head → Option ℕ → Type 0
+HasSquareType h None = Unit {0}
+HasSquareType h (Some bits) = (is_float h.dtype ≡ true) × (h.comps ≡ OCTAHEDRAL_INTEGERS)
+
 -- a decoder whose heads are accepted
 pub record DecoderPasses (d : DecoderHead) : Type 0 where
   pub some : 0 < length d.heads
   pub heads : All HeadPasses d.heads
+  pub squares : All (λ h. HasSquareType h h.octa) d.heads
 
 -- decoders whose heads are accepted
 pub record DecodersPass (decoders : List DecoderHead) : Type 0 where
@@ -178,7 +184,14 @@ abbrev pub AreAcceptedLinks : Option ℕ → List DecoderHead → Type 0
 AreAcceptedLinks None decoders = map link_of decoders ≡ replicate (length decoders) no_link
 AreAcceptedLinks (Some attr_data) decoders = LinksPass attr_data [] decoders
 
--- a decoder is read back behind others
+-- the profiles of a number have the coding of a head, and those of heads
+abbrev pub HasCoding : ℕ → Head → Type 0
+HasCoding n h = (coding_facts (head_coding h)).since ≤ n
+
+abbrev pub HaveCodings : ℕ → List DecoderHead → Type 0
+HaveCodings n decoders = All (λ d. All (HasCoding n) d.heads) decoders
+
+-- a decoder is read back behind others, in each profile that has its codings
 pub record DecoderSpelled (d : DecoderHead) : Type 0 where
-  pub behind : (before : ℕ) → before + length d.heads ≤ MAX_ATTRIBUTES
-      → Spells (decoder_at before (link_of d)) (decoder_bytes d) (bare_decoder d)
+  pub behind : (n before : ℕ) → All (HasCoding n) d.heads → before + length d.heads ≤ MAX_ATTRIBUTES
+      → Spells (decoder_at (profile_numbered n) before (link_of d)) (decoder_bytes d) (bare_decoder d)

@@ -1,7 +1,16 @@
 pub mod Each
 pub mod Heads
 pub mod Values
+pub mod Orders
+pub mod Positions
+pub mod TablePositions
+pub mod Squared
+pub mod Textured
+pub mod Attributes
 pub mod ValueLaws
+pub mod WrittenParts
+pub mod WrittenSquares
+pub mod WrittenTexture
 pub mod Written
 pub mod Examples
 pub mod Opened

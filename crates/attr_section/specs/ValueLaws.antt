@@ -9,16 +9,17 @@ use Rattle.predict.specs.declared.schemes.Prediction.{Prediction}
 use Rattle.predict.specs.Schemes.{facts, code_of}
 use Rattle.predict.specs.Laws.{AreApart}
 use Rattle.attr_section.specs.declared.values.Values.{Values}
-use Rattle.attr_section.specs.Values.{values_at}
-use Rattle.attr_section.specs.Written.{HasFewFlags}
+use Rattle.attr_section.specs.Positions.{PositionsRead}
+use Rattle.attr_section.specs.Attributes.{values_at}
+use Rattle.attr_section.specs.WrittenParts.{HasFewFlags}
 
 -- in a sequential stream values have a prediction that needs no surface; and by a prediction that came later than a profile they are
 -- predicted nowhere in it
 pub record PredictionsAreAccepted : Type 0 where
-  pub sequential : (p : Profile) (h : Head) (entries spent : ℕ) (c : Reading) (y : Values × Reading)
-      → values_at p None h entries spent c ≡ Ok y → (q : Prediction) × (y.0.predict ≡ code_of q) × ((facts q).needs_surface ≡ false)
-  pub later : (p : Profile) (w : Option Ordered) (h : Head) (entries spent : ℕ) (c : Reading) (y : Values × Reading)
-      → (q : Prediction) → p.number < (facts q).since → values_at p w h entries spent c ≡ Ok y → ¬ (y.0.predict ≡ code_of q)
+  pub sequential : (p : Profile) (found : PositionsRead) (h : Head) (entries spent : ℕ) (c : Reading) (y : Values × Reading)
+      → values_at p None found h entries spent c ≡ Ok y → (q : Prediction) × (y.0.predict ≡ code_of q) × ((facts q).needs_surface ≡ false)
+  pub later : (p : Profile) (w : Option Ordered) (found : PositionsRead) (h : Head) (entries spent : ℕ) (c : Reading) (y : Values × Reading)
+      → (q : Prediction) → p.number < (facts q).since → values_at p w found h entries spent c ≡ Ok y → ¬ (y.0.predict ≡ code_of q)
 
 -- where no two entries of an order over a table stand at one vertex, no list of flags has more of them than there are corners
 abbrev pub FlagsAreFew : Type 0

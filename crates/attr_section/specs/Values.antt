@@ -2,9 +2,8 @@
 -- Parallelogram Prediction", "Mesh Constrained Multi Parallelogram Prediction" and "Quantization"; the limits and what is
 -- refused are this project's choice). The values of a stream's decoder stand on its ordered surface, where there is one:
 -- there is none in a sequential stream.
-use Rattle.std.specs.Prelude.{◌≡◌, ℕ, ◌+◌, ◌-◌, ◌*◌, ◌/◌, ◌%◌, ◌^◌, ◌==◌, ◌&&◌, Bool, ℤ, pos, negsuc, ◌-ℤ◌, List, [], ◌∷◌}
-use Rattle.std.specs.Prelude.{length, map, Option, None, Some, Result, Ok, Err, sum_by, nat_le, int_le, int_lt, if◌then◌else◌}
-use Rattle.std.specs.List.{list_all}
+use Rattle.std.specs.Prelude.{ℕ, ◌-◌, ◌/◌, ◌%◌, ◌^◌, ◌==◌, ◌&&◌, Bool, ℤ, pos, negsuc, ◌-ℤ◌, List, []}
+use Rattle.std.specs.Prelude.{length, map, Option, None, Some, Result, Ok, Err, nat_le, int_le, int_lt, if◌then◌else◌}
 use Rattle.drc_base.specs.declared.kinds.Kind.{Kind}
 use Rattle.drc_base.specs.declared.kinds.Kind.TheVariants as kind
 use Rattle.drc_base.specs.Profile.{Profile}
@@ -13,24 +12,17 @@ use Rattle.drc_bits.specs.Reading.{Reading, Item, must, many_at, fault_at}
 use Rattle.drc_bits.specs.Numbers.{number_at, signed_at}
 use Rattle.drc_bits.specs.Varint.{var32_at}
 use Rattle.rans_binary.specs.Blocks.{first_bits, bit_block_at}
-use Rattle.attr_heads.specs.declared.heads.Head.{Head}
-use Rattle.attr_heads.specs.declared.quants.Quant.{Quant}
-use Rattle.attr_heads.specs.DataTypes.{is_float, in_type}
-use Rattle.attr_heads.specs.HeadItems.{quant_bits_at}
 use Rattle.predict.specs.Wrap.{Range}
 use Rattle.symbol_coding.specs.Block.{block_at}
 use Rattle.predict.specs.declared.schemes.Behind.{Behind}
 use Rattle.predict.specs.declared.schemes.Behind.TheVariants as behind
 use Rattle.predict.specs.declared.schemes.Prediction.{Prediction}
 use Rattle.predict.specs.declared.transforms.Transform.{Transform}
-use Rattle.predict.specs.Schemes.{facts, code_of, prediction_of}
+use Rattle.predict.specs.Schemes.{facts, prediction_of}
 use Rattle.predict.specs.Transforms.{transform_of}
 use Rattle.corner_table.specs.Ordered.{Ordered}
 use Rattle.predict.specs.Surfaces.{surface_or, lacks_surface}
 use Rattle.predict.specs.Foretold.{restored_with}
-use Rattle.attr_section.specs.declared.decoder_heads.DecoderHead.{DecoderHead}
-use Rattle.attr_section.specs.declared.values.Values.{Values}
-use Rattle.attr_section.specs.Each.{each_at}
 
 -- a prediction that a profile has; any other is refused at its byte
 abbrev pub tested_prediction : Profile → Reading → Option Prediction → Reading → Item Prediction
@@ -139,64 +131,3 @@ predicted_at at w q comps n c =
     if (facts q).corrects
     then if lacks_surface q w then Err (record { kind = kind.Prediction; at = at }) else corrected_at at (surface_or w) q comps n c
     else integers_at comps n c
-
--- n values of an attribute, each of which is in its data type
-unfoldable pub typed_values_at : Profile → Option Ordered → Head → ℕ → Reading → Item Values
-typed_values_at p w h n c = do
-  predict ← prediction_at p c
-  values ← predicted_at c.place w predict.0 h.comps n predict.1
-  if list_all (in_type h.dtype) values.0
-      then Ok (record { values = values.0; predict = code_of predict.0; at = c.place }, values.1)
-      else fault_at kind.ValueRange c
-
--- the values of an attribute for so many entries, behind so many values of other attributes
-unfoldable pub values_at : Profile → Option Ordered → Head → ℕ → ℕ → Reading → Item Values
-values_at p w h entries spent c =
-    if nat_le (spent + entries * h.comps) p.values then typed_values_at p w h (entries * h.comps) c else fault_at kind.ValueLimit c
-
--- a quantisation: a minimum for each component, the range, the bits
-unfoldable pub quant_at : ℕ → Reading → Item Quant
-quant_at comps c = do
-  min ← many_at (number_at 4) comps c
-  range ← number_at 4 min.1
-  bits ← quant_bits_at range.1
-  Ok (record { bits = bits.0; range = range.0; min = min.0 }, bits.1)
-
--- the quantisation of a head, which stands at quantised floats alone
-unfoldable pub quant_of_at : Head → Reading → Item (Option Quant)
-quant_of_at h c = if is_float h.dtype then (quant_at h.comps c >>= λ q. Ok (Some q.0, q.1)) else Ok (None, c)
-
--- a head with its quantisation
-unfoldable pub quantised_at : Head → Reading → Item Head
-quantised_at h c = quant_of_at h c >>= λ q. Ok (record h { quant = q.0 }, q.1)
-
--- how many values attributes have
-abbrev pub values_in : List Values → ℕ
-values_in attributes = sum_by (λ v. length v.values) attributes
-
--- the values of these attributes for so many entries, behind so many other values
-unfoldable pub attributes_at : Profile → Option Ordered → List Head → ℕ → ℕ → Reading → Item (List Values)
-attributes_at p w heads entries spent c = each_at (λ before h. values_at p w h entries (spent + values_in before)) [] heads c
-
--- these heads with their quantisations
-unfoldable pub quants_at : List Head → Reading → Item (List Head)
-quants_at heads c = each_at (λ _ h. quantised_at h) [] heads c
-
--- a decoder's values for so many entries on its ordered surface, behind so many other values, and the decoder with its
--- quantisations
-unfoldable pub decoder_values_at : Profile → Option Ordered → DecoderHead → ℕ → ℕ → Reading → Item (List Values × DecoderHead)
-decoder_values_at p w d entries spent c = do
-  values ← attributes_at p w d.heads entries spent c
-  heads ← quants_at d.heads values.1
-  Ok ((values.0, record d { heads = heads.0 }), heads.1)
-
--- each head has its values, for n entries
-abbrev pub AreColumns : ℕ → List Head → List Values → Type 0
-AreColumns n [] [] = Unit {0}
-AreColumns n [] (v ∷ values) = ⊥
-AreColumns n (h ∷ heads) [] = ⊥
-AreColumns n (h ∷ heads) (v ∷ values) = (length v.values ≡ n * h.comps) × AreColumns n heads values
-
--- how many components heads have
-abbrev pub comps_of : List Head → List ℕ
-comps_of heads = map (λ h. h.comps) heads

@@ -6,7 +6,7 @@ ghost use Rattle.drc_bits.specs.Reading.{Gives};
 ghost use Rattle.predict.specs.Wrap.{CanWrap};
 ghost use Rattle.predict.specs.Surfaces.{surface_of, surface_or};
 ghost use Rattle.attr_section.specs.Values.{behind_at};
-ghost use Rattle.attr_section.specs.Written.{behind_bytes, BehindSpelled};
+ghost use Rattle.attr_section.specs.WrittenParts.{behind_bytes, BehindSpelled};
 
 use crate::flag_lists::read_flag_lists;
 use crate::flag_writing::put_flag_lists;

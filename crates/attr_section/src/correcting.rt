@@ -9,7 +9,7 @@ ghost use Rattle.predict.specs.Restored.{corrections};
 ghost use Rattle.predict.specs.Surfaces.{surface_of, surface_or, MayBeOver, CanStand};
 ghost use Rattle.predict.specs.Foretold.{foretold, marks_of, restored_with};
 ghost use Rattle.predict.specs.declared.transforms.Transform.TheVariants as transform;
-ghost use Rattle.attr_section.specs.Written.{range_of};
+ghost use Rattle.attr_section.specs.WrittenParts.{range_of};
 
 use crate::ranges::wrap_of;
 use drc_base::{MAX_VALUES, Memory};

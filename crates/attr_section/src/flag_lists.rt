@@ -25,8 +25,9 @@ fn read_flag_count(c: &mut Cursor<'_>, corners: usize) -> Result<u32, Fault>
 }
 
 /// The first `count` bits of a block.
-fn bits_of(alloc: Global, block: BitBlock<'_>, count: u32) -> Result<Vec<bool>, Memory>
-    ensures { IfOk result (λ v. v.items ≡ first_bits count block.entry) }
+pub(crate) fn bits_of(alloc: Global, block: BitBlock<'_>, count: u32) -> Result<Vec<bool>, Memory>
+    ensures bits { IfOk result (λ v. v.items ≡ first_bits count block.entry) }
+    ensures len { IfOk result (λ v. length v.items ≡ count) }
 {
     let mut block = block;
     let mut bits = Vec::with_capacity(alloc, count as usize)?;

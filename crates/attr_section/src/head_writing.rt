@@ -1,12 +1,13 @@
 //! Writing the heads of attribute decoders.
 
 ghost use Rattle.std.specs.Prelude.{◌≡◌, ◌≤◌, ◌++◌, Option, ℕ, OnOk, All, flat_map, map, is_some, length};
+ghost use Rattle.drc_base.specs.Profile.{profile_numbered};
 ghost use Rattle.drc_bits.specs.Reading.{many_at};
 ghost use Rattle.drc_bits.specs.Spells.{Spells};
 ghost use Rattle.attr_heads.specs.HeadItems.{head_at};
 ghost use Rattle.attr_heads.specs.Codings.{coding_byte};
-ghost use Rattle.attr_heads.specs.HeadItems.{head_bytes, bare_head, HeadPasses};
-ghost use Rattle.attr_section.specs.Heads.{id_byte, decoder_at, heads_at, link_bytes, decoder_bytes, links_bytes, heads_bytes, bare_decoder, link_of, DecoderPasses, DecodersPass, DecoderSpelled, AreAcceptedLinks};
+ghost use Rattle.attr_heads.specs.HeadItems.{head_bytes, stream_head, HeadPasses};
+ghost use Rattle.attr_section.specs.Heads.{id_byte, decoder_at, heads_at, link_bytes, decoder_bytes, links_bytes, heads_bytes, bare_decoder, link_of, DecoderPasses, DecodersPass, DecoderSpelled, AreAcceptedLinks, HaveCodings};
 
 use crate::decoder_heads::DecoderHead;
 use crate::head_items::coding_byte;
@@ -18,7 +19,7 @@ use drc_bits::put_var32;
 fn put_heads(out: &mut Vec<u8>, heads: &[Head]) -> Result<(), Memory>
     requires { All HeadPasses heads.now }
     ensures bytes { OnOk result (out.new.items ≡ out.old.items ++ flat_map head_bytes heads.now) }
-    ensures again { OnOk result (All (λ h. Spells head_at (head_bytes h) (bare_head h)) heads.now) }
+    ensures again { OnOk result (All (λ h. Spells head_at (head_bytes h) (stream_head h)) heads.now) }
 {
     for head in heads {
         put_bare_head(out, head)?;
@@ -28,10 +29,10 @@ fn put_heads(out: &mut Vec<u8>, heads: &[Head]) -> Result<(), Memory>
 
 /// Appends the codings of heads.
 fn put_codings(out: &mut Vec<u8>, heads: &[Head]) -> Result<(), Memory>
-    ensures { OnOk result (out.new.items ≡ out.old.items ++ map (λ h. coding_byte h.dtype) heads.now) }
+    ensures { OnOk result (out.new.items ≡ out.old.items ++ map coding_byte heads.now) }
 {
     for head in heads {
-        out.push(coding_byte(head.dtype))?;
+        out.push(coding_byte(head))?;
     }
     Ok(())
 }
@@ -93,13 +94,14 @@ fn put_decoders(out: &mut Vec<u8>, decoders: &[DecoderHead]) -> Result<(), Memor
 }
 
 /// Appends the heads of the decoders `d`, with their links under Edgebreaker. They are read back, whatever
-/// follows them, without the quantisations of the heads, where the links are those of a sequential stream, or
-/// are accepted beside the number of attribute data. An answer of `Memory` leaves the bytes open.
+/// follows them, without what stands at the end of the decoders, in each profile that has their codings, where the
+/// links are those of a sequential stream, or are accepted beside the number of attribute data. An answer of `Memory`
+/// leaves the bytes open.
 #[tactic(auto, unfolding(crate::specs::Heads::heads_bytes))]
 pub fn write_heads(out: &mut Vec<u8>, d: &[DecoderHead], eb: bool) -> Result<(), Memory>
     requires { DecodersPass d.now }
     ensures bytes { OnOk result (out.new.items ≡ out.old.items ++ heads_bytes eb d.now) }
-    ensures again { OnOk result ((attr_data : Option ℕ) → is_some attr_data ≡ eb → AreAcceptedLinks attr_data d.now → Spells (heads_at attr_data) (heads_bytes eb d.now) (map bare_decoder d.now)) }
+    ensures again { OnOk result ((n : ℕ) (attr_data : Option ℕ) → HaveCodings n d.now → is_some attr_data ≡ eb → AreAcceptedLinks attr_data d.now → Spells (heads_at (profile_numbered n) attr_data) (heads_bytes eb d.now) (map bare_decoder d.now)) }
 {
     out.push(d.len() as u8)?;
     if eb {

@@ -5,7 +5,7 @@ ghost use Rattle.drc_bits.specs.Bits.{low_bytes};
 ghost use Rattle.drc_bits.specs.Spells.{Spells};
 ghost use Rattle.symbol_coding.specs.Block.{block_at, block_bytes};
 ghost use Rattle.attr_section.specs.Values.{signed_of, integers_at};
-ghost use Rattle.attr_section.specs.Written.{greatest_symbol, byte_width, plain_bytes, symbols_bytes};
+ghost use Rattle.attr_section.specs.WrittenParts.{greatest_symbol, byte_width, plain_bytes, symbols_bytes};
 
 use drc_base::{MAX_VALUES, Memory};
 use std::alloc::Global;
@@ -78,7 +78,7 @@ fn put_all(front: Vec<u8>, symbols: &[u32], width: u8) -> Result<Vec<u8>, Memory
 }
 
 /// Appends symbols as they are.
-#[tactic(auto, unfolding(crate::specs::Written::plain_bytes))]
+#[tactic(auto, unfolding(crate::specs::WrittenParts::plain_bytes))]
 fn put_plain(alloc: Global, out: &mut Vec<u8>, symbols: &[u32]) -> Result<(), Memory>
     ensures bytes { OnOk result (out.new.items ≡ out.old.items ++ plain_bytes symbols.now) }
     ensures fit { OnOk result (All (λ s. s < 2 ^ 32) symbols.now) }

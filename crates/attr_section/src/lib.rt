@@ -6,6 +6,7 @@
 #![tactic(auto)]
 
 mod behind;
+mod bounded;
 mod coded_integers;
 mod correcting;
 mod decoder_heads;
@@ -20,12 +21,18 @@ mod integers;
 mod laws;
 mod links;
 mod listed;
+mod places;
+mod positions;
 mod predicted_writing;
 mod predicting;
 mod quant_writing;
 mod quants;
 mod ranges;
-mod types;
+mod square_predictions;
+mod squared_reading;
+mod squared_writing;
+mod textured;
+mod textured_writing;
 mod value_reading;
 mod value_writing;
 mod values;
@@ -36,7 +43,10 @@ pub use head_reading::read_heads;
 pub use head_writing::write_heads;
 pub use laws::{flags_are_few, predictions_are_accepted};
 pub use links::POSITION_ID;
+pub use positions::{Positions, ReadPositions, with_attribute};
 pub use predict::{Ordered, Prediction};
 pub use ranges::range_of;
+pub use square_predictions::SquarePrediction;
+pub use textured::TEXTURE_PREDICTION;
 pub use value_reading::read_decoder;
 pub use values::Values;

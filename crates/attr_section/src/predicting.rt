@@ -39,7 +39,7 @@ pub fn read_prediction(c: &mut Cursor<'_>, profile: Profile) -> Result<Predictio
 
 /// The transform of corrections.
 #[tactic(auto, unfolding(crate::specs::Values::transform_at))]
-fn read_transform(c: &mut Cursor<'_>) -> Result<Transform, Fault>
+pub(crate) fn read_transform(c: &mut Cursor<'_>) -> Result<Transform, Fault>
     ensures { Reads (λ t. t) (transform_at c.old) c.new result }
 {
     let fault = c.fault(Kind::Transform);

@@ -1,17 +1,14 @@
-//! Writing the quantisations of attributes.
+//! Writing what stands at the end of a decoder: the quantisations of attributes, and the squares of octahedral ones.
 
 ghost use Rattle.std.specs.Prelude.{◌≡◌, ◌<◌, ◌^◌, ◌++◌, OnOk, All, flat_map};
 ghost use Rattle.drc_bits.specs.Bits.{low_bytes};
-ghost use Rattle.drc_bits.specs.Spells.{Spells};
-ghost use Rattle.attr_heads.specs.HeadItems.{bare_head};
-ghost use Rattle.attr_section.specs.Values.{quantised_at};
-ghost use Rattle.attr_section.specs.Written.{quant_bytes, quants_bytes, HasQuant, QuantFits};
+ghost use Rattle.attr_section.specs.Written.{quant_bytes, end_bytes, ends_bytes, HasEnd, QuantFits, EndSpelled};
 
 use attr_heads::{Head, Quant};
 use drc_base::Memory;
 
 /// Appends a number of four bytes.
-fn put_u32(out: &mut Vec<u8>, x: u32) -> Result<(), Memory>
+pub(crate) fn put_u32(out: &mut Vec<u8>, x: u32) -> Result<(), Memory>
     ensures { OnOk result (out.new.items ≡ out.old.items ++ low_bytes 4 x) }
 {
     out.extend_from_slice(&x.to_le_bytes())?;
@@ -51,14 +48,32 @@ fn put_quant_of(out: &mut Vec<u8>, head: &Head) -> Result<(), Memory>
     }
 }
 
-/// Appends the quantisations of heads, each of which gets it back.
-pub fn put_quants(out: &mut Vec<u8>, heads: &[Head]) -> Result<(), Memory>
-    requires { All (λ h. HasQuant h h.quant) heads.now }
-    ensures bytes { OnOk result (out.new.items ≡ out.old.items ++ quants_bytes heads.now) }
-    ensures again { OnOk result (All (λ h. Spells (quantised_at (bare_head h)) (quant_bytes h.quant) h) heads.now) }
+/// Appends what stands for a head at the end of its decoder: the bits of its square, or its quantisation.
+fn put_end(out: &mut Vec<u8>, head: &Head) -> Result<(), Memory>
+    requires { HasEnd head.now head.now.octa }
+    ensures bytes { OnOk result (out.new.items ≡ out.old.items ++ end_bytes head.now) }
+    ensures again { OnOk result (EndSpelled head.now) }
+{
+    match head.octa {
+        None => {
+            put_quant_of(out, head)?;
+            Ok(())
+        }
+        Some(bits) => {
+            out.push(bits)?;
+            Ok(())
+        }
+    }
+}
+
+/// Appends what stands for heads at the end of their decoder, each of which gets it back.
+pub fn put_ends(out: &mut Vec<u8>, heads: &[Head]) -> Result<(), Memory>
+    requires { All (λ h. HasEnd h h.octa) heads.now }
+    ensures bytes { OnOk result (out.new.items ≡ out.old.items ++ ends_bytes heads.now) }
+    ensures again { OnOk result (All EndSpelled heads.now) }
 {
     for head in heads {
-        put_quant_of(out, head)?;
+        put_end(out, head)?;
     }
     Ok(())
 }

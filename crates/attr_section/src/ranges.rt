@@ -7,7 +7,7 @@ ghost use Rattle.drc_bits.specs.Reading.{Reads};
 ghost use Rattle.drc_bits.specs.Spells.{Spells};
 ghost use Rattle.predict.specs.Wrap.{CanWrap};
 ghost use Rattle.attr_section.specs.Values.{range_at};
-ghost use Rattle.attr_section.specs.Written.{range_of, signed_bytes, range_bytes};
+ghost use Rattle.attr_section.specs.WrittenParts.{range_of, signed_bytes, range_bytes};
 
 use drc_base::{Fault, Kind, Memory};
 use drc_bits::Cursor;

@@ -6,12 +6,12 @@ use Rattle.std.specs.Cmp.Lexicographic.{pointwise_decides}
 use Rattle.std.proofs.lemmas.Map.Views.{Contains-from_lookup}
 use Rattle.std.proofs.lemmas.Option.{none-some}
 use Rattle.std.proofs.lemmas.Slice.Eq.{bytes_eq-Decides}
-use Rattle.drc_container.specs.declared.choice.choices.Choice.{Choice}
 use Rattle.drc_gen.specs.declared.kinds.GenKind.{GenKind}
 use Rattle.drc_gen.specs.GeneratedLaws.{IsSize}
 use Rattle.drc_app.specs.declared.commands.Command.{Command}
 use Rattle.drc_app.specs.declared.commands.Command.TheVariants as command
 use Rattle.drc_app.specs.declared.options.LineOption.{LineOption}
+use Rattle.drc_app.specs.declared.options.LineChoice.{LineChoice}
 use Rattle.drc_app.specs.declared.options.ValueOption.{ValueOption}
 use Rattle.drc_app.specs.declared.command_table.CommandName.{CommandName}
 use Rattle.drc_app.specs.declared.command_table.CommandName.TheVariants as name
@@ -22,12 +22,12 @@ use Rattle.drc_app.specs.declared.help.HelpTopic.TheVariants as topic
 use Rattle.drc_app.specs.declared.command_lines.Progress.{Progress}
 use Rattle.drc_app.specs.declared.command_lines.Progress.TheVariants as progress
 use Rattle.drc_app.specs.Words.{word_rows, value_named}
-use Rattle.drc_app.specs.Options.{OptionKind, flag, one_of, option_row, option_word, all_options, option_values, Sets, Setting, words_of, AreOf, with_settings, no_choice}
+use Rattle.drc_app.specs.Options.{OptionKind, flag, one_of, option_row, option_word, all_options, option_values, Sets, Setting, words_of, AreOf, with_settings, none_chosen, goes_together, may_stand}
 use Rattle.drc_app.specs.Commands.{command_word, first_words, command_row, command_names}
 use Rattle.drc_app.specs.Line.{gen_word, kinds, IsLine, named, gen}
-use Rattle.drc_app.specs.Progress.{command_named, name_worded, gen_named, number_named, size_named, behind_kind, behind_option, with_option, with_value, first_argument, behind_command, after_word, whole}
+use Rattle.drc_app.specs.Progress.{command_named, name_worded, gen_named, number_named, size_named, behind_kind, behind_option, with_option, valued, standing, with_value, first_argument, behind_command, after_word, whole}
 use Rattle.drc_app.proofs.Numbers.{number_is, number_back, size_is, size_back}
-use Rattle.drc_app.proofs.Settings.{is_option, option_back, value_back, AreNew, new-once, once-new_choice, gen_back}
+use Rattle.drc_app.proofs.Settings.{is_option, option_back, value_back, AreNew, new-once, once-new_choice, stands-before, gen_back}
 use Rattle.drc_app.proofs.Tables.{Some_is, each-of, named_is, word_is, value_among}
 
 -- the command of a line behind which these words bring a reading to its end
@@ -38,24 +38,34 @@ ends p (w ∷ ws) = option_and_then (λ q. ends q ws) (after_word p w)
 pub step : (p : Progress) (w : List ℕ) (ws : List (List ℕ)) (q : Progress) → after_word p w ≡ Some q → ends p (w ∷ ws) ≡ ends q ws
 step p w ws q e = ap (option_and_then (λ q. ends q ws)) e
 
-mapped : {A B : Type 0} (f : A → B) (x : Option A) (y : B) → option_map f x ≡ Some y → (z : A) × (x ≡ Some z) × (f z ≡ y)
+pub mapped : {A B : Type 0} (f : A → B) (x : Option A) (y : B) → option_map f x ≡ Some y → (z : A) × (x ≡ Some z) × (f z ≡ y)
 mapped f None y e = absurd (none-some y e)
 mapped f (Some z) y e = (z, refl, Some_is (f z) y e)
+
+-- a choice that may stand in a line
+pub stood : (x : Option LineChoice) (d : LineChoice) → option_and_then standing x ≡ Some d → (x ≡ Some d) × (may_stand d ≡ true)
+stood None d e = absurd (none-some d e)
+stood (Some c) d e = by (may_stand c) refl e
+  where
+    by : (b : Bool) → may_stand c ≡ b → (if b then Some c else None) ≡ Some d → (◌≡◌ {A = Option LineChoice} (Some c) (Some d)) × (may_stand d ≡ true)
+    by true is h = (h, sym (ap may_stand (Some_is c d h)) ∙ is)
+    by false is h = absurd (none-some d h)
 
 -- ---- what the words behind a line are, where they bring it to its end
 
 -- settings of options that the command takes and the choice doesn't have, which make this command
-record SetBy (by : CommandName) (ch : Choice) (ws : List (List ℕ)) (c : Command) : Type 0 where
+record SetBy (by : CommandName) (ch : LineChoice) (ws : List (List ℕ)) (c : Command) : Type 0 where
   settings : List Setting
   taken : AreOf (command_row by).takes settings
   spelled : ws ≡ words_of settings
   new : AreNew ch settings
   made : c ≡ (command_row by).command (with_settings ch settings)
+  together : goes_together (with_settings ch settings) ≡ true
 
 -- a value of the option, and such settings behind it
-record ValueBy (by : CommandName) (ch : Choice) (o : ValueOption) (ws : List (List ℕ)) (c : Command) : Type 0 where
+record ValueBy (by : CommandName) (ch : LineChoice) (o : ValueOption) (ws : List (List ℕ)) (c : Command) : Type 0 where
   value : List ℕ
-  set : Choice → Choice
+  set : LineChoice → LineChoice
   rest : List (List ℕ)
   spelled : ws ≡ value ∷ rest
   is : Contains (option_values o) (value, set)
@@ -86,13 +96,13 @@ Completes (progress.SizeDue kind) ws c = SizeFollows kind ws c
 Completes (progress.SeedDue kind size) ws c = SeedFollows kind size ws c
 Completes (progress.Whole d) ws c = (ws ≡ []) × (c ≡ d)
 
-set_none : (by : CommandName) (ch : Choice) → SetBy by ch [] ((command_row by).command ch)
-set_none by ch = record { settings = []; taken = tt; spelled = refl; new = tt; made = refl }
+set_none : (by : CommandName) (ch : LineChoice) → goes_together ch ≡ true → SetBy by ch [] ((command_row by).command ch)
+set_none by ch together = record { settings = []; taken = tt; spelled = refl; new = tt; made = refl; together = together }
 
 -- the words of a command, in front of its options
-options_line : (by : CommandName) (ws : List (List ℕ)) (c : Command) → SetBy by no_choice ws c → IsLine ((command_row by).words ++ ws) c
+options_line : (by : CommandName) (ws : List (List ℕ)) (c : Command) → SetBy by none_chosen ws c → IsLine ((command_row by).words ++ ws) c
 options_line by ws c x =
-    named by x.settings x.taken (new-once x.settings x.new) (ap (λ r. (command_row by).words ++ r) x.spelled) x.made
+    named by x.settings x.taken (new-once x.settings x.new) x.together (ap (λ r. (command_row by).words ++ r) x.spelled) x.made
 
 -- a command whose words were read
 words_are : (ws : List (List ℕ)) (by : CommandName) → name_worded ws ≡ Some by → ws ≡ (command_row by).words
@@ -105,7 +115,7 @@ words_are ws by e = beside command_names (Contains-from_lookup (λ x y. (pointwi
     beside (n ∷ ns) (suc k, below, is) = beside ns (k, omega (arith, below), is)
 
 -- an option that was read
-setting_read : (by : CommandName) (ch : Choice) (w : List ℕ) (ws : List (List ℕ)) (c : Command) (q : Progress)
+setting_read : (by : CommandName) (ch : LineChoice) (w : List ℕ) (ws : List (List ℕ)) (c : Command) (q : Progress)
     → with_option by ch w ≡ Some q → Completes q ws c → SetBy by ch (w ∷ ws) c
 unfolding Completes
 setting_read by ch w ws c q e x = found (value_named (word_rows option_word (command_row by).takes) w) refl e
@@ -118,6 +128,7 @@ setting_read by ch w ws c q e x = found (value_named (word_rows option_word (com
       spelled = ap (λ v. v ∷ ws) word ∙ ap (λ r. option_word o ∷ r) x.spelled;
       new = (free, x.new);
       made = x.made;
+      together = x.together;
     }
     taken o (one_of v) is word free takes x = record {
       settings = record {
@@ -130,6 +141,7 @@ setting_read by ch w ws c q e x = found (value_named (word_rows option_word (com
       spelled = ap (λ v. v ∷ ws) word ∙ ap (λ r. option_word o ∷ r) (x.spelled ∙ ap (λ r. x.value ∷ r) x.behind.spelled);
       new = (free, x.behind.new);
       made = x.behind.made;
+      together = x.behind.together;
     }
 
     tested : (o : LineOption) (b : Bool) → Contains (command_row by).takes o → w ≡ option_word o → (option_row o).has ch ≡ b
@@ -160,12 +172,12 @@ argument_back word.Gen w ws c q e x = by (mapped progress.SizeDue (gen_named w) 
         s.seeded.made
 argument_back k w ws c q e x = found (name_worded (command_word k ∷ [])) refl e
   where
-    found : (o : Option CommandName) → name_worded (command_word k ∷ []) ≡ o → option_and_then (λ by. with_option by no_choice w) o ≡ Some q
+    found : (o : Option CommandName) → name_worded (command_word k ∷ []) ≡ o → option_and_then (λ by. with_option by none_chosen w) o ≡ Some q
         → IsLine (command_word k ∷ w ∷ ws) c
     found None is h = absurd (none-some q h)
     found (Some by) is h =
         subst (λ r. IsLine (r ++ w ∷ ws) c) (sym (words_are (command_word k ∷ []) by is))
-        (options_line by (w ∷ ws) c (setting_read by no_choice w ws c q h x))
+        (options_line by (w ∷ ws) c (setting_read by none_chosen w ws c q h x))
 
 -- a line that words bring to its end is brought there by the word before and them
 back : (p : Progress) (w : List ℕ) (ws : List (List ℕ)) (c : Command) (q : Progress) → after_word p w ≡ Some q → Completes q ws c → Completes p (w ∷ ws) c
@@ -177,7 +189,7 @@ back progress.Nothing w ws c q e x =
 back (progress.Named k) w ws c q e x = found (name_worded (command_word k ∷ w ∷ [])) refl e
   where
     found : (o : Option CommandName) → name_worded (command_word k ∷ w ∷ []) ≡ o
-        → option_or (option_map (λ by. progress.Options by no_choice) o) (first_argument k w) ≡ Some q → IsLine (command_word k ∷ w ∷ ws) c
+        → option_or (option_map (λ by. progress.Options by none_chosen) o) (first_argument k w) ≡ Some q → IsLine (command_word k ∷ w ∷ ws) c
     found None is h = argument_back k w ws c q h x
     found (Some by) is h =
         subst (λ r. IsLine (r ++ ws) c) (sym (words_are (command_word k ∷ w ∷ []) by is))
@@ -185,7 +197,7 @@ back (progress.Named k) w ws c q e x = found (name_worded (command_word k ∷ w 
 back (progress.Options by ch) w ws c q e x = setting_read by ch w ws c q e x
 back (progress.Value by ch o) w ws c q e x =
     let m = mapped (progress.Options by) (with_value ch o w) q e in
-    let v = mapped (λ set. set ch) (value_named (option_values o) w) m.0 m.1 in
+    let v = mapped (λ set. set ch) (value_named (option_values o) w) m.0 (stood (valued ch o w) m.0 m.1).0 in
     record {
       value = w;
       set = v.0;
@@ -208,11 +220,15 @@ back (progress.Whole d) w ws c q e x = absurd (none-some q e)
 whole_is : (p : Progress) (c : Command) → whole p ≡ Some c → Completes p [] c
 unfolding Completes
 whole_is (progress.Named k) c e =
-    let m = mapped (λ by. (command_row by).command no_choice) (name_worded (command_word k ∷ [])) c e in
+    let m = mapped (λ by. (command_row by).command none_chosen) (name_worded (command_word k ∷ [])) c e in
     subst (IsLine _) m.2
-    (subst (λ r. IsLine (r ++ []) ((command_row m.0).command no_choice)) (sym (words_are (command_word k ∷ []) m.0 m.1))
-    (options_line m.0 [] _ (set_none m.0 no_choice)))
-whole_is (progress.Options by ch) c e = subst (SetBy by ch []) (Some_is _ _ e) (set_none by ch)
+    (subst (λ r. IsLine (r ++ []) ((command_row m.0).command none_chosen)) (sym (words_are (command_word k ∷ []) m.0 m.1))
+    (options_line m.0 [] _ (set_none m.0 none_chosen refl)))
+whole_is (progress.Options by ch) c e = tested (goes_together ch) refl e
+  where
+    tested : (b : Bool) → goes_together ch ≡ b → (if b then Some ((command_row by).command ch) else None) ≡ Some c → SetBy by ch [] c
+    tested true is h = subst (SetBy by ch []) (Some_is _ _ h) (set_none by ch is)
+    tested false is h = absurd (none-some c h)
 whole_is (progress.Whole d) c e = (refl, sym (Some_is _ _ e))
 whole_is p c e = absurd (none-some c e)
 
@@ -233,10 +249,10 @@ is_line words c e = completes progress.Nothing words c e
 -- ---- lines are read to their ends
 
 -- an option that the command takes and the choice doesn't have, with its value
-setting_ends : (by : CommandName) (ch : Choice) (p : Progress) (s : Setting) (ws : List (List ℕ)) → Contains (command_row by).takes s.option
-    → (option_row s.option).has ch ≡ false → after_word p (option_word s.option) ≡ with_option by ch (option_word s.option)
+setting_ends : (by : CommandName) (ch : LineChoice) (p : Progress) (s : Setting) (ws : List (List ℕ)) → Contains (command_row by).takes s.option
+    → (option_row s.option).has ch ≡ false → may_stand (s.set ch) ≡ true → after_word p (option_word s.option) ≡ with_option by ch (option_word s.option)
     → ends p (option_word s.option ∷ s.value ++ ws) ≡ ends (progress.Options by (s.set ch)) ws
-setting_ends by ch p s ws among free same = taken (option_row s.option).takes s.value s.set s.sets (same ∙ entered)
+setting_ends by ch p s ws among free stands same = taken (option_row s.option).takes s.value s.set s.sets stands (same ∙ entered)
   where
     entered : with_option by ch (option_word s.option)
         ≡ Some (behind_option by (behind_kind (option_row s.option).takes ch).0 (behind_kind (option_row s.option).takes ch).1)
@@ -245,48 +261,49 @@ setting_ends by ch p s ws among free same = taken (option_row s.option).takes s.
         (option_and_then (λ o. if (option_row o).has ch then None else Some (behind_kind (option_row o).takes ch)) o)) (option_back by s.option among)
         ∙ ap (λ b. option_map (λ r. behind_option by r.0 r.1) (if b then None else Some (behind_kind (option_row s.option).takes ch))) free
 
-    taken : (t : OptionKind) (value : List (List ℕ)) (set : Choice → Choice) → Sets t value set
+    taken : (t : OptionKind) (value : List (List ℕ)) (set : LineChoice → LineChoice) → Sets t value set → may_stand (set ch) ≡ true
         → after_word p (option_word s.option) ≡ Some (behind_option by (behind_kind t ch).0 (behind_kind t ch).1)
         → ends p (option_word s.option ∷ value ++ ws) ≡ ends (progress.Options by (set ch)) ws
-    taken (flag f) value set is e =
+    taken (flag f) value set is stands e =
         ap (λ v. ends p (option_word s.option ∷ v ++ ws)) is.0
         ∙ step p (option_word s.option) ws _ e
         ∙ ap (λ f. ends (progress.Options by (f ch)) ws) (sym is.1)
-    taken (one_of o) value set is e =
+    taken (one_of o) value set is stands e =
         ap (λ v. ends p (option_word s.option ∷ v ++ ws)) is.1
         ∙ step p (option_word s.option) (is.0 ∷ ws) _ e
-        ∙ step (progress.Value by ch o) is.0 ws _ (ap (λ r. option_map (progress.Options by) (option_map (λ set. set ch) r)) (value_back o is.0 set is.2))
+        ∙ step (progress.Value by ch o) is.0 ws _ (ap (λ r. option_map (progress.Options by) (option_and_then standing (option_map (λ set. set ch) r))) (value_back o is.0 set is.2)
+        ∙ ap (λ (b : Bool). option_map (progress.Options by) (if b then Some (set ch) else None)) stands)
 
-settings_end : (by : CommandName) (ch : Choice) (ss : List Setting) → AreOf (command_row by).takes ss → AreNew ch ss
-    → ends (progress.Options by ch) (words_of ss) ≡ Some ((command_row by).command (with_settings ch ss))
-settings_end by ch [] among new = refl
-settings_end by ch (s ∷ ss) among new =
-    setting_ends by ch (progress.Options by ch) s (words_of ss) among.0 new.0 refl
-    ∙ settings_end by (s.set ch) ss among.1 new.1
+settings_end : (by : CommandName) (ch : LineChoice) (ss : List Setting) → AreOf (command_row by).takes ss → AreNew ch ss
+    → goes_together (with_settings ch ss) ≡ true → ends (progress.Options by ch) (words_of ss) ≡ Some ((command_row by).command (with_settings ch ss))
+settings_end by ch [] among new together = ap (λ (b : Bool). if b then Some ((command_row by).command ch) else None) together
+settings_end by ch (s ∷ ss) among new together =
+    setting_ends by ch (progress.Options by ch) s (words_of ss) among.0 new.0 (stands-before (s.set ch) ss new.1 together) refl
+    ∙ settings_end by (s.set ch) ss among.1 new.1 together
 
 -- where the words of a command lead, which is a whole line: behind them stand its options
 record Reached (by : CommandName) : Type 0 where
   at : Progress
   led : (ws : List (List ℕ)) → ends progress.Nothing ((command_row by).words ++ ws) ≡ ends at ws
-  alone : whole at ≡ Some ((command_row by).command no_choice)
-  goes_on : (o : LineOption) → after_word at (option_word o) ≡ with_option by no_choice (option_word o)
+  alone : whole at ≡ Some ((command_row by).command none_chosen)
+  goes_on : (o : LineOption) → after_word at (option_word o) ≡ with_option by none_chosen (option_word o)
 
 -- by two words at its options, at once
-behind_two : (by : CommandName) → ((ws : List (List ℕ)) → ends progress.Nothing ((command_row by).words ++ ws) ≡ ends (progress.Options by no_choice) ws)
+behind_two : (by : CommandName) → ((ws : List (List ℕ)) → ends progress.Nothing ((command_row by).words ++ ws) ≡ ends (progress.Options by none_chosen) ws)
     → Reached by
-behind_two by led = record { at = progress.Options by no_choice; led = led; alone = refl; goes_on = λ o. refl }
+behind_two by led = record { at = progress.Options by none_chosen; led = led; alone = refl; goes_on = λ o. refl }
 
 -- by one word at this first word, of which options are no second words of commands
 behind_one : (by : CommandName) (k : CommandWord)
     → ((ws : List (List ℕ)) → ends progress.Nothing ((command_row by).words ++ ws) ≡ ends (progress.Named k) ws)
-    → whole (progress.Named k) ≡ Some ((command_row by).command no_choice)
-    → map (λ o. behind_command k (option_word o)) all_options ≡ map (λ o. with_option by no_choice (option_word o)) all_options
+    → whole (progress.Named k) ≡ Some ((command_row by).command none_chosen)
+    → map (λ o. behind_command k (option_word o)) all_options ≡ map (λ o. with_option by none_chosen (option_word o)) all_options
     → Reached by
 behind_one by k led alone goes_on = record {
   at = progress.Named k;
   led = led;
   alone = alone;
-  goes_on = λ o. each-of (λ o. behind_command k (option_word o)) (λ o. with_option by no_choice (option_word o)) all_options o goes_on (is_option o);
+  goes_on = λ o. each-of (λ o. behind_command k (option_word o)) (λ o. with_option by none_chosen (option_word o)) all_options o goes_on (is_option o);
 }
 
 reached_help : (t : HelpTopic) → Reached (name.Help t)
@@ -303,13 +320,13 @@ reached (name.Help t) = reached_help t
 reached name.Version = behind_one name.Version word.Version (λ ws. refl) refl refl
 reached by = behind_two by (λ ws. refl)
 
-command_ends : (by : CommandName) (ss : List Setting) → AreOf (command_row by).takes ss → AreNew no_choice ss
-    → ends progress.Nothing ((command_row by).words ++ words_of ss) ≡ Some ((command_row by).command (with_settings no_choice ss))
-command_ends by [] among new = (reached by).led [] ∙ (reached by).alone
-command_ends by (s ∷ ss) among new =
+command_ends : (by : CommandName) (ss : List Setting) → AreOf (command_row by).takes ss → AreNew none_chosen ss
+    → goes_together (with_settings none_chosen ss) ≡ true → ends progress.Nothing ((command_row by).words ++ words_of ss) ≡ Some ((command_row by).command (with_settings none_chosen ss))
+command_ends by [] among new together = (reached by).led [] ∙ (reached by).alone
+command_ends by (s ∷ ss) among new together =
     (reached by).led (words_of (s ∷ ss))
-    ∙ setting_ends by no_choice (reached by).at s (words_of ss) among.0 new.0 ((reached by).goes_on s.option)
-    ∙ settings_end by (s.set no_choice) ss among.1 new.1
+    ∙ setting_ends by none_chosen (reached by).at s (words_of ss) among.0 new.0 (stands-before (s.set none_chosen) ss new.1 together) ((reached by).goes_on s.option)
+    ∙ settings_end by (s.set none_chosen) ss among.1 new.1 together
 
 -- the numbers of a generated mesh, and its kind in front of them
 pub seed_ends : (kind : GenKind) (size seed : ℕ) → seed < 2 ^ 64
@@ -332,6 +349,6 @@ kind_ends kind size seed may small =
 
 -- a command's line is read to its end
 pub line_ends : (words : List (List ℕ)) (c : Command) → IsLine words c → ends progress.Nothing words ≡ Some c
-line_ends words c (named by ss among once e is) =
-    ap (ends progress.Nothing) e ∙ command_ends by ss among (once-new_choice ss once) ∙ ap Some (sym is)
+line_ends words c (named by ss among once together e is) =
+    ap (ends progress.Nothing) e ∙ command_ends by ss among (once-new_choice ss once) together ∙ ap Some (sym is)
 line_ends words c (gen kind size seed may small e is) = ap (ends progress.Nothing) e ∙ kind_ends kind size seed may small ∙ ap Some (sym is)

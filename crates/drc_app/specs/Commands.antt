@@ -1,7 +1,7 @@
 -- The table of commands: their words, the options that each takes, and what it does by what these choose (this project's choice).
 use Rattle.std.specs.Prelude.{ℕ, List, [], ◌∷◌, map, codes, true, false}
-use Rattle.drc_container.specs.declared.choice.choices.Choice.{Choice}
-use Rattle.drc_app.specs.Options.{coding_options}
+use Rattle.drc_app.specs.Options.{coding_options, reading_options, profile_of}
+use Rattle.drc_app.specs.declared.options.LineChoice.{LineChoice}
 use Rattle.drc_app.specs.declared.options.LineOption.{LineOption}
 use Rattle.drc_app.specs.declared.commands.Command.{Command}
 use Rattle.drc_app.specs.declared.commands.Command.TheVariants as command
@@ -54,16 +54,36 @@ help_topics =
 pub record CommandRow : Type 0 where
   pub words : List (List ℕ)
   pub takes : List LineOption
-  pub command : Choice → Command
+  pub command : LineChoice → Command
 
 abbrev pub command_row : CommandName → CommandRow
-command_row name.Enc = record { words = command_word Enc ∷ []; takes = coding_options; command = command.Enc }
-command_row name.Dec = record { words = command_word Dec ∷ []; takes = []; command = λ c. command.Dec }
-command_row name.Info = record { words = command_word Info ∷ []; takes = []; command = λ c. command.Info }
-command_row name.Recode = record { words = command_word Recode ∷ []; takes = coding_options; command = command.Recode }
-command_row name.Restore = record { words = command_word Recode ∷ codes "--restore" ∷ []; takes = []; command = λ c. command.Restore }
-command_row name.Verify = record { words = command_word Verify ∷ []; takes = []; command = λ c. command.Verify false }
-command_row name.VerifySurface = record { words = command_word Verify ∷ codes "--surface" ∷ []; takes = []; command = λ c. command.Verify true }
+command_row name.Enc = record {
+  words = command_word Enc ∷ [];
+  takes = coding_options;
+  command = λ c. command.Enc c.coding (profile_of c);
+}
+command_row name.Dec = record { words = command_word Dec ∷ []; takes = reading_options; command = λ c. command.Dec (profile_of c) }
+command_row name.Info = record { words = command_word Info ∷ []; takes = reading_options; command = λ c. command.Info (profile_of c) }
+command_row name.Recode = record {
+  words = command_word Recode ∷ [];
+  takes = coding_options;
+  command = λ c. command.Recode c.coding (profile_of c);
+}
+command_row name.Restore = record {
+  words = command_word Recode ∷ codes "--restore" ∷ [];
+  takes = reading_options;
+  command = λ c. command.Restore (profile_of c);
+}
+command_row name.Verify = record {
+  words = command_word Verify ∷ [];
+  takes = reading_options;
+  command = λ c. command.Verify false (profile_of c);
+}
+command_row name.VerifySurface = record {
+  words = command_word Verify ∷ codes "--surface" ∷ [];
+  takes = reading_options;
+  command = λ c. command.Verify true (profile_of c);
+}
 command_row name.KdEnc = record { words = command_word Kd ∷ codes "enc" ∷ []; takes = []; command = λ c. command.KdEnc }
 command_row name.KdDec = record { words = command_word Kd ∷ codes "dec" ∷ []; takes = []; command = λ c. command.KdDec }
 command_row (name.Help t) = record { words = command_word Help ∷ topic_words t; takes = []; command = λ c. command.Help t }

@@ -3,6 +3,7 @@ use Rattle.std.specs.Prelude.{ℕ, ◌&&◌, Bool, true, false, List, [], length
 use Rattle.drc_base.specs.declared.faults.Fault.{Fault}
 use Rattle.drc_base.specs.declared.kinds.Kind.TheVariants as kind
 use Rattle.drc_base.specs.declared.limits.TheConstants.{MAX_INPUT_BYTES}
+use Rattle.drc_base.specs.Profile.{Profile, profile_numbered}
 use Rattle.drc_base.specs.Steps.{◌>>=◌}
 use Rattle.ply_mesh.specs.Text.{ply_text}
 use Rattle.mesh_model.specs.declared.geometries.Geometry.{Geometry}
@@ -12,15 +13,15 @@ use Rattle.mesh_model.specs.MapRead.{map_read}
 use Rattle.mesh_model.specs.MapText.{map_text_of}
 use Rattle.drc_gen.specs.declared.kinds.GenKind.{GenKind}
 use Rattle.drc_gen.specs.Generated.{generated}
-use Rattle.ply_mesh.specs.Read.{ply_read}
+use Rattle.ply_mesh.specs.Read.{ply_read_in, ply_read}
 use Rattle.drc_container.specs.declared.choice.methods.Method.{Method}
 use Rattle.drc_container.specs.declared.choice.methods.Method.TheVariants as method
 use Rattle.drc_container.specs.declared.choice.choices.Choice.{Choice}
 use Rattle.drc_container.specs.writing.Encoded.{encoding_due as encoded}
 use Rattle.drc_container.specs.writing.Chosen.{written as written_by}
-use Rattle.drc_container.specs.reading.Stream.{meaning_of}
-use Rattle.drc_info.specs.InfoText.{report_of}
-use Rattle.drc_recode.specs.Restored.{restored_stream}
+use Rattle.drc_container.specs.reading.Stream.{meaning_in}
+use Rattle.drc_info.specs.InfoText.{report_in}
+use Rattle.drc_recode.specs.Restored.{restored_in}
 use Rattle.kd_points.specs.Meaning.{kd_meaning}
 use Rattle.kd_points.specs.Rows.{kd_rows}
 use Rattle.kd_points.specs.Written.{cloud_in}
@@ -41,25 +42,25 @@ coded_due choice g = do
   stream ← encoded g choice
   Ok (stream.0, map_text_of g stream.1)
 
--- the same of the geometry that a text means
-abbrev pub stream_due : Choice → List ℕ → Result (List ℕ × List ℕ) Fault
-stream_due choice text = ply_read text >>= λ g. coded_due choice g
+-- the same of the geometry that a text means in a profile
+abbrev pub stream_due : Profile → Choice → List ℕ → Result (List ℕ × List ℕ) Fault
+stream_due p choice text = ply_read_in p.number text >>= λ g. coded_due choice g
 
--- the same of the geometry that a stream means
-abbrev pub recoded_due : Choice → List ℕ → Result (List ℕ × List ℕ) Fault
-recoded_due choice stream = meaning_of stream >>= λ g. coded_due choice g
+-- the same of the geometry that a stream means in a profile
+abbrev pub recoded_due : Profile → Choice → List ℕ → Result (List ℕ × List ℕ) Fault
+recoded_due p choice stream = meaning_in p stream >>= λ g. coded_due choice g
 
--- the stream behind a map in the order before its rows; no note
-unfoldable pub restored_due : List ℕ → Result (List ℕ × List ℕ) Fault
-restored_due input = do
+-- the stream behind a map, read in a profile, in the order before the map's rows; no note
+unfoldable pub restored_due : Profile → List ℕ → Result (List ℕ × List ℕ) Fault
+restored_due p input = do
   map ← map_read input
-  stream ← restored_stream map.cloud map.rows.rows (drop map.end input)
+  stream ← restored_in p map.cloud map.rows.rows (drop map.end input)
   Ok (stream, [])
 
--- the text of the geometry that a stream means; no note
-unfoldable pub text_due : List ℕ → Result (List ℕ × List ℕ) Fault
-text_due stream = do
-  g ← meaning_of stream
+-- the text of the geometry that a stream means in a profile; no note
+unfoldable pub text_due : Profile → List ℕ → Result (List ℕ × List ℕ) Fault
+text_due p stream = do
+  g ← meaning_in p stream
   Ok (ply_text g, [])
 
 -- the kd-tree file of a geometry, and the map of its points
@@ -78,10 +79,10 @@ kd_text_due file = do
   g ← kd_meaning file
   Ok (ply_text g, [])
 
--- the report on a stream; no note
-unfoldable pub report_due : List ℕ → Result (List ℕ × List ℕ) Fault
-report_due stream = do
-  text ← report_of stream
+-- the report on a stream in a profile; no note
+unfoldable pub report_due : Profile → List ℕ → Result (List ℕ × List ℕ) Fault
+report_due p stream = do
+  text ← report_in p stream
   Ok (text, [])
 
 -- no option but a method
@@ -127,13 +128,13 @@ written_due answer = answer >>= λ a. Ok (Written a)
 
 -- what the command gives from bytes within the limit, where it reads them
 abbrev pub worked : Command → List ℕ → Result Given Fault
-worked (command.Enc choice) bytes = written_due (stream_due choice bytes)
-worked command.Dec bytes = written_due (text_due bytes)
-worked command.Info bytes = written_due (report_due bytes)
+worked (command.Enc choice profile) bytes = written_due (stream_due (profile_numbered profile.number) choice bytes)
+worked (command.Dec profile) bytes = written_due (text_due (profile_numbered profile.number) bytes)
+worked (command.Info profile) bytes = written_due (report_due (profile_numbered profile.number) bytes)
 worked (command.Gen mesh) bytes = Ok (Written (summary_due mesh.kind mesh.size mesh.seed))
-worked (command.Recode choice) bytes = written_due (recoded_due choice bytes)
-worked command.Restore bytes = written_due (restored_due bytes)
-worked (command.Verify surface) bytes = verified_input surface bytes
+worked (command.Recode choice profile) bytes = written_due (recoded_due (profile_numbered profile.number) choice bytes)
+worked (command.Restore profile) bytes = written_due (restored_due (profile_numbered profile.number) bytes)
+worked (command.Verify surface profile) bytes = verified_input (profile_numbered profile.number) surface bytes
 worked command.KdEnc bytes = written_due (text_kd_due bytes)
 worked command.KdDec bytes = written_due (kd_text_due bytes)
 worked (command.Help topic) bytes = Ok (Written (help_text topic, []))

@@ -3,7 +3,7 @@
 use Rattle.std.specs.Prelude.{◌≡◌, ℕ, List, Err}
 use Rattle.drc_base.specs.declared.faults.Fault.{Fault}
 use Rattle.mesh_model.specs.MapRead.{limited_head_at}
-use Rattle.ply_text.specs.DeclaredLines.{declared_of_text}
+use Rattle.ply_text.specs.DeclaredLines.{declared_of_text_in, declared_of_text}
 use Rattle.drc_container.specs.reading.Stream.{declared_of}
 use Rattle.kd_points.specs.Meaning.{kd_declared_of}
 use Rattle.drc_app.specs.declared.commands.Command.{Command}
@@ -12,13 +12,13 @@ use Rattle.drc_app.specs.declared.commands.Command.TheVariants as command
 -- the command's input has this fault in what it declares: a text in its header, a stream or a kd-tree file in its numbers, and a map in
 -- its first line, where it stands in front
 abbrev pub IsEarlyFault : Command → List ℕ → Fault → Type 0
-IsEarlyFault (command.Enc choice) text f = declared_of_text text ≡ Err f
-IsEarlyFault command.Dec stream f = declared_of stream ≡ Err f
-IsEarlyFault command.Info stream f = declared_of stream ≡ Err f
+IsEarlyFault (command.Enc choice profile) text f = declared_of_text_in profile.number text ≡ Err f
+IsEarlyFault (command.Dec profile) stream f = declared_of stream ≡ Err f
+IsEarlyFault (command.Info profile) stream f = declared_of stream ≡ Err f
 IsEarlyFault (command.Gen mesh) bytes f = ⊥
-IsEarlyFault (command.Recode choice) stream f = declared_of stream ≡ Err f
-IsEarlyFault command.Restore input f = limited_head_at input ≡ Err f
-IsEarlyFault (command.Verify surface) input f = limited_head_at input ≡ Err f
+IsEarlyFault (command.Recode choice profile) stream f = declared_of stream ≡ Err f
+IsEarlyFault (command.Restore profile) input f = limited_head_at input ≡ Err f
+IsEarlyFault (command.Verify surface profile) input f = limited_head_at input ≡ Err f
 IsEarlyFault command.KdEnc text f = declared_of_text text ≡ Err f
 IsEarlyFault command.KdDec file f = kd_declared_of file ≡ Err f
 IsEarlyFault (command.Help topic) bytes f = ⊥

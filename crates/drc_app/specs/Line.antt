@@ -1,10 +1,10 @@
 -- Which words are a command line, and which word of other words is the bad one (this project's choice).
-use Rattle.std.specs.Prelude.{◌≡◌, ℕ, suc, ◌<◌, ◌^◌, ◌⊎◌, List, [], ◌∷◌, ◌++◌, length, take, codes, decimal}
+use Rattle.std.specs.Prelude.{◌≡◌, true, ℕ, suc, ◌<◌, ◌^◌, ◌⊎◌, List, [], ◌∷◌, ◌++◌, length, take, codes, decimal}
 use Rattle.std.specs.Prelude.{Result, Ok, Err}
 use Rattle.drc_gen.specs.declared.kinds.GenKind.{GenKind}
 use Rattle.drc_gen.specs.declared.kinds.GenKind.TheVariants.{Grid, Torus, Holes, Fans, Seams}
 use Rattle.drc_gen.specs.GeneratedLaws.{IsSize}
-use Rattle.drc_app.specs.Options.{Setting, words_of, AreOf, SetsOnce, with_settings, no_choice}
+use Rattle.drc_app.specs.Options.{Setting, words_of, AreOf, SetsOnce, with_settings, none_chosen, goes_together}
 use Rattle.drc_app.specs.Commands.{command_word, command_row}
 use Rattle.drc_app.specs.declared.commands.Command.{Command}
 use Rattle.drc_app.specs.declared.commands.Command.TheVariants as command
@@ -23,11 +23,13 @@ abbrev pub kinds : List GenKind
 kinds = Grid ∷ Torus ∷ Holes ∷ Fans ∷ Seams ∷ []
 
 -- these words are the command line of this command: the words of a command of the table and behind them options that it takes, in any
--- order, each at most once; or `gen` with a kind, a size and a seed, the two numbers as their decimal texts, so without leading zeros
+-- order, each at most once, which go together; or `gen` with a kind, a size and a seed, the two numbers as their decimal texts, so without
+-- leading zeros
 pub data IsLine (words : List (List ℕ)) (c : Command) : Type 0 where
   named : (by : CommandName) (settings : List Setting) → AreOf (command_row by).takes settings → SetsOnce settings
+      → goes_together (with_settings none_chosen settings) ≡ true
       → words ≡ (command_row by).words ++ words_of settings
-      → c ≡ (command_row by).command (with_settings no_choice settings) → IsLine words c
+      → c ≡ (command_row by).command (with_settings none_chosen settings) → IsLine words c
   gen : (kind : GenKind) (size seed : ℕ) → IsSize size → seed < 2 ^ 64
       → words ≡ command_word GenWord ∷ gen_word kind ∷ decimal size ∷ decimal seed ∷ []
       → c ≡ command.Gen (record { kind = kind; size = size; seed = seed }) → IsLine words c

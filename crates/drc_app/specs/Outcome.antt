@@ -70,7 +70,7 @@ seen (answer.Differs v) = Differs v
 
 -- a command gives a verdict alone only where it verifies, and no yes
 abbrev pub MayDiffer : Command → Verdict → Type 0
-MayDiffer (command.Verify surface) v = v ≢ verdict.Same
+MayDiffer (command.Verify surface profile) v = v ≢ verdict.Same
 MayDiffer c v = ⊥
 
 abbrev pub MayAnswer : Command → Answer → Type 0

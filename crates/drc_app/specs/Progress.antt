@@ -8,13 +8,13 @@ use Rattle.std.specs.Str.{bytes_eq}
 use Rattle.std.specs.Str.Parse.{digits_value}
 use Rattle.drc_gen.specs.declared.kinds.GenKind.{GenKind}
 use Rattle.drc_gen.specs.declared.sizes.TheConstants.{LEAST_SIZE, MOST_SIZE}
-use Rattle.drc_container.specs.declared.choice.choices.Choice.{Choice}
 use Rattle.drc_app.specs.Words.{word_rows, value_named}
-use Rattle.drc_app.specs.Options.{OptionKind, flag, one_of, option_row, option_word, option_values, no_choice}
+use Rattle.drc_app.specs.Options.{OptionKind, flag, one_of, option_row, option_word, option_values, none_chosen, goes_together, may_stand}
 use Rattle.drc_app.specs.Commands.{command_word, first_words, command_row, command_names}
 use Rattle.drc_app.specs.Line.{gen_word, kinds}
 use Rattle.drc_app.specs.declared.commands.Command.{Command}
 use Rattle.drc_app.specs.declared.commands.Command.TheVariants as command
+use Rattle.drc_app.specs.declared.options.LineChoice.{LineChoice}
 use Rattle.drc_app.specs.declared.options.LineOption.{LineOption}
 use Rattle.drc_app.specs.declared.options.ValueOption.{ValueOption}
 use Rattle.drc_app.specs.declared.command_table.CommandName.{CommandName}
@@ -48,36 +48,43 @@ abbrev pub size_named : List ℕ → Option ℕ
 size_named w = option_and_then sized (number_named w)
 
 -- the choice behind an option, and the option whose value is due
-abbrev pub behind_kind : OptionKind → Choice → Choice × Option ValueOption
+abbrev pub behind_kind : OptionKind → LineChoice → LineChoice × Option ValueOption
 behind_kind (flag set) c = (set c, None)
 behind_kind (one_of o) c = (c, Some o)
 
 -- the same behind the option of this word, which is one of these and which the choice doesn't have
-abbrev pub option_read : List LineOption → Choice → List ℕ → Option (Choice × Option ValueOption)
+abbrev pub option_read : List LineOption → LineChoice → List ℕ → Option (LineChoice × Option ValueOption)
 option_read os c w =
     option_and_then (λ o. if (option_row o).has c then None else Some (behind_kind (option_row o).takes c)) (value_named (word_rows option_word os) w)
 
 -- a choice with the value of this word for an option
-abbrev pub with_value : Choice → ValueOption → List ℕ → Option Choice
-with_value c o w = option_map (λ set. set c) (value_named (option_values o) w)
+abbrev pub valued : LineChoice → ValueOption → List ℕ → Option LineChoice
+valued c o w = option_map (λ set. set c) (value_named (option_values o) w)
+
+-- the same where it may stand beside the others
+abbrev pub standing : LineChoice → Option LineChoice
+standing c = if may_stand c then Some c else None
+
+abbrev pub with_value : LineChoice → ValueOption → List ℕ → Option LineChoice
+with_value c o w = option_and_then standing (valued c o w)
 
 -- a line with an option more
-abbrev pub behind_option : CommandName → Choice → Option ValueOption → Progress
+abbrev pub behind_option : CommandName → LineChoice → Option ValueOption → Progress
 behind_option by c None = progress.Options by c
 behind_option by c (Some o) = progress.Value by c o
 
-abbrev pub with_option : CommandName → Choice → List ℕ → Option Progress
+abbrev pub with_option : CommandName → LineChoice → List ℕ → Option Progress
 with_option by c w = option_map (λ r. behind_option by r.0 r.1) (option_read (command_row by).takes c w)
 
 -- `gen` and a kind, or a command of one word and the first of its options
 abbrev pub first_argument : CommandWord → List ℕ → Option Progress
 first_argument Gen w = option_map progress.SizeDue (gen_named w)
-first_argument k w = option_and_then (λ by. with_option by no_choice w) (name_worded (command_word k ∷ []))
+first_argument k w = option_and_then (λ by. with_option by none_chosen w) (name_worded (command_word k ∷ []))
 
 -- a first word and one word more
 abbrev pub behind_command : CommandWord → List ℕ → Option Progress
 behind_command k w =
-    option_or (option_map (λ by. progress.Options by no_choice) (name_worded (command_word k ∷ w ∷ []))) (first_argument k w)
+    option_or (option_map (λ by. progress.Options by none_chosen) (name_worded (command_word k ∷ w ∷ []))) (first_argument k w)
 
 -- a line with one word more, where such a line begins a command line
 abbrev pub after_word : Progress → List ℕ → Option Progress
@@ -92,8 +99,8 @@ after_word (progress.Whole c) w = None
 
 -- the command of a whole line
 abbrev pub whole : Progress → Option Command
-whole (progress.Named k) = option_map (λ by. (command_row by).command no_choice) (name_worded (command_word k ∷ []))
-whole (progress.Options by c) = Some ((command_row by).command c)
+whole (progress.Named k) = option_map (λ by. (command_row by).command none_chosen) (name_worded (command_word k ∷ []))
+whole (progress.Options by c) = if goes_together c then Some ((command_row by).command c) else None
 whole (progress.Whole c) = Some c
 whole p = None
 

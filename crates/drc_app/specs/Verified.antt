@@ -3,13 +3,14 @@ use Rattle.std.specs.Prelude.{ℕ, ◌+◌, Bool, List, [], ◌++◌, length, ta
 use Rattle.std.specs.Prelude.{Option, None, Some, option_and_then, Result, Ok}
 use Rattle.std.specs.List.{starts_with}
 use Rattle.drc_base.specs.declared.faults.Fault.{Fault}
+use Rattle.drc_base.specs.Profile.{Profile}
 use Rattle.drc_base.specs.Steps.{◌>>=◌}
 use Rattle.mesh_model.specs.declared.map_reading.MapRead.{MapRead}
 use Rattle.mesh_model.specs.MapRead.{line_or_fault, map_read}
 use Rattle.mesh_model.specs.NumberText.{number_then}
 use Rattle.drc_verify.specs.declared.verdicts.Verdict.{Verdict}
 use Rattle.drc_verify.specs.declared.verdicts.Verdict.TheVariants as verdict
-use Rattle.drc_verify.specs.Checked.{verdict_due as checked}
+use Rattle.drc_verify.specs.Checked.{verdict_in as checked}
 use Rattle.drc_app.specs.Given.{Given, Written, Differs}
 
 -- the line `ply <n>` at the front of some bytes: n, and what stands behind the line
@@ -46,9 +47,10 @@ abbrev pub given_by : ℕ → Verdict → Given
 given_by count verdict.Same = Written (same_line count, [])
 given_by count v = Differs v
 
--- the verdict on the parts of an input, or their first fault; and with surfaces, what is missing for them
-unfoldable pub verified_input : Bool → List ℕ → Result Given Fault
-verified_input surface input = do
+-- the verdict on the parts of an input, whose stream is read in a profile, or their first fault; and with surfaces, what is missing for
+-- them
+unfoldable pub verified_input : Profile → Bool → List ℕ → Result Given Fault
+verified_input p surface input = do
   parts ← parts_of input
-  v ← checked surface parts.map.cloud parts.map.rows.rows parts.text parts.stream
+  v ← checked p surface parts.map.cloud parts.map.rows.rows parts.text parts.stream
   Ok (given_by (length parts.map.rows.rows) v)

@@ -9,8 +9,9 @@ use crate::command_table::{
 };
 use crate::commands::{Command, GenMesh};
 use crate::gen_words::{gen_named, number_named, size_named};
-use crate::options::{ValueOption, no_choice, option_read, with_value};
-use drc_container::Choice;
+use crate::options::{
+    LineChoice, ValueOption, goes_together, none_chosen, option_read, with_value,
+};
 use drc_gen::GenKind;
 
 /// How far a command line has come.
@@ -21,9 +22,9 @@ pub enum Progress {
     /// Its first word.
     Named(CommandWord),
     /// A command with whole options.
-    Options(CommandName, Choice),
+    Options(CommandName, LineChoice),
     /// A command with whole options and one whose value is due.
-    Value(CommandName, Choice, ValueOption),
+    Value(CommandName, LineChoice, ValueOption),
     /// `gen` with a kind, whose size is due.
     SizeDue(GenKind),
     /// `gen` with a kind and a size, whose seed is due.
@@ -54,10 +55,16 @@ fn whole_line(count: u64, progress: Progress) -> Result<Command, u64>
 {
     match progress {
         Progress::Named(first) => match named_alone(first) {
-            Some(name) => Ok(command_chosen(name, no_choice())),
+            Some(name) => Ok(command_chosen(name, none_chosen())),
             None => Err(count),
         },
-        Progress::Options(name, choice) => Ok(command_chosen(name, choice)),
+        Progress::Options(name, choice) => {
+            if goes_together(choice) {
+                Ok(command_chosen(name, choice))
+            } else {
+                Err(count)
+            }
+        }
         Progress::Whole(command) => Ok(command),
         Progress::Nothing => Err(count),
         Progress::Value(_, _, _) => Err(count),
@@ -92,7 +99,7 @@ fn behind_command(first: CommandWord, word: &str) -> Option<Progress>
     ensures { result ≡ behind_command first word.now }
 {
     match named_behind(first, word) {
-        Some(name) => Some(Progress::Options(name, no_choice())),
+        Some(name) => Some(Progress::Options(name, none_chosen())),
         None => first_argument(first, word),
     }
 }
@@ -103,13 +110,13 @@ fn first_argument(first: CommandWord, word: &str) -> Option<Progress>
 {
     match first {
         CommandWord::Gen => Some(Progress::SizeDue(gen_named(word)?)),
-        _ => with_option(named_alone(first)?, no_choice(), word),
+        _ => with_option(named_alone(first)?, none_chosen(), word),
     }
 }
 
 /// The line with the option of this word more, where the command takes it and it wasn't given before. Its
 /// value is due, where it takes one.
-fn with_option(name: CommandName, choice: Choice, word: &str) -> Option<Progress>
+fn with_option(name: CommandName, choice: LineChoice, word: &str) -> Option<Progress>
     ensures { result ≡ with_option name choice word.now }
 {
     match option_read(options_of(name), choice, word)? {

@@ -7,8 +7,7 @@ ghost use Rattle.drc_app.specs.Progress.{command_named, name_worded};
 
 use crate::commands::Command;
 use crate::help::HelpTopic;
-use crate::options::{CODING_OPTIONS, LineOption};
-use drc_container::Choice;
+use crate::options::{CODING_OPTIONS, LineChoice, LineOption, READING_OPTIONS, profile_of};
 
 /// The first word of a command line.
 #[derive(Clone, Copy, Debug, PartialEq, Eq)]
@@ -133,12 +132,12 @@ pub fn options_of(name: CommandName) -> &'static [LineOption]
 {
     match name {
         CommandName::Enc => &CODING_OPTIONS,
-        CommandName::Dec => &[],
-        CommandName::Info => &[],
+        CommandName::Dec => &READING_OPTIONS,
+        CommandName::Info => &READING_OPTIONS,
         CommandName::Recode => &CODING_OPTIONS,
-        CommandName::Restore => &[],
-        CommandName::Verify => &[],
-        CommandName::VerifySurface => &[],
+        CommandName::Restore => &READING_OPTIONS,
+        CommandName::Verify => &READING_OPTIONS,
+        CommandName::VerifySurface => &READING_OPTIONS,
         CommandName::KdEnc => &[],
         CommandName::KdDec => &[],
         CommandName::Help(_) => &[],
@@ -147,17 +146,18 @@ pub fn options_of(name: CommandName) -> &'static [LineOption]
 }
 
 /// The command of its words, by what its options choose.
-pub fn command_chosen(name: CommandName, choice: Choice) -> Command
+pub fn command_chosen(name: CommandName, choice: LineChoice) -> Command
     ensures { result ≡ (command_row name).command choice }
 {
+    let profile = profile_of(choice);
     match name {
-        CommandName::Enc => Command::Enc(choice),
-        CommandName::Dec => Command::Dec,
-        CommandName::Info => Command::Info,
-        CommandName::Recode => Command::Recode(choice),
-        CommandName::Restore => Command::Restore,
-        CommandName::Verify => Command::Verify(false),
-        CommandName::VerifySurface => Command::Verify(true),
+        CommandName::Enc => Command::Enc(choice.coding, profile),
+        CommandName::Dec => Command::Dec(profile),
+        CommandName::Info => Command::Info(profile),
+        CommandName::Recode => Command::Recode(choice.coding, profile),
+        CommandName::Restore => Command::Restore(profile),
+        CommandName::Verify => Command::Verify(false, profile),
+        CommandName::VerifySurface => Command::Verify(true, profile),
         CommandName::KdEnc => Command::KdEnc,
         CommandName::KdDec => Command::KdDec,
         CommandName::Help(topic) => Command::Help(topic),

@@ -4,6 +4,7 @@ ghost use Rattle.std.specs.Prelude.{◌≡◌};
 ghost use Rattle.drc_app.specs.Due.{reads};
 
 use crate::help::HelpTopic;
+use drc_base::Profile;
 use drc_container::Choice;
 use drc_gen::GenKind;
 
@@ -22,21 +23,21 @@ pub struct GenMesh {
 /// What a command line asks for.
 #[derive(Clone, Copy, Debug, PartialEq, Eq)]
 pub enum Command {
-    /// PLY text to a stream.
-    Enc(Choice),
-    /// A stream to PLY text.
-    Dec,
-    /// A stream to a report.
-    Info,
+    /// PLY text to a stream, coded as chosen, in a profile.
+    Enc(Choice, Profile),
+    /// A stream to PLY text, read in a profile.
+    Dec(Profile),
+    /// A stream to a report, read in a profile.
+    Info(Profile),
     /// A generated mesh to a summary. It reads nothing.
     Gen(GenMesh),
-    /// A stream to a stream of the same geometry, coded as chosen.
-    Recode(Choice),
-    /// A map and a stream to a stream in the order before the map's rows.
-    Restore,
-    /// A map, PLY text and a stream to a yes, or to where they differ. With true, what is glued in the
-    /// stream is tested too.
-    Verify(bool),
+    /// A stream to a stream of the same geometry, coded as chosen, in a profile.
+    Recode(Choice, Profile),
+    /// A map and a stream, read in a profile, to a stream in the order before the map's rows.
+    Restore(Profile),
+    /// A map, PLY text and a stream, read in a profile, to a yes, or to where they differ. With true, what
+    /// is glued in the stream is tested too.
+    Verify(bool, Profile),
     /// PLY text of a cloud to a kd-tree file.
     KdEnc,
     /// A kd-tree file to PLY text.

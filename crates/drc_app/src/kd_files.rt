@@ -1,9 +1,11 @@
 //! Clouds as kd-tree files: from PLY text, and back to it.
 
-ghost use Rattle.std.specs.Prelude.{◌≡◌, Err, IfOk, IsOkAnd};
+ghost use Rattle.std.specs.Prelude.{◌≡◌, Err, IfOk, IsOkAnd, IsTrue};
 ghost use Rattle.drc_base.specs.declared.faults.Fault.{Fault as AnyFault};
 ghost use Rattle.drc_base.specs.declared.faults.Refusal.TheVariants as refusal;
 ghost use Rattle.drc_base.specs.Refusals.{Answers};
+ghost use Rattle.attr_heads.specs.ProfileHeads.{has_heads};
+ghost use Rattle.mesh_model.specs.Contents.{heads_in};
 ghost use Rattle.mesh_model.specs.MapText.{map_words};
 ghost use Rattle.ply_text.specs.DeclaredLines.{declared_of_text};
 ghost use Rattle.ply_mesh.specs.Read.{ply_read};
@@ -14,7 +16,7 @@ ghost use Rattle.drc_app.specs.Outcome.{output_bytes, due_bytes};
 
 use crate::outcomes::{Due, Output, text_read};
 use attr_heads::Head;
-use drc_base::{Memory, Refusal};
+use drc_base::{Memory, PROFILE_TWO, Refusal};
 use kd_points::{kd_decode, kd_encode};
 use mesh_model::{Cloud, Geometry, map_text};
 use ply_mesh::PlyText;
@@ -28,6 +30,7 @@ const LABEL: Head = Head {
     normalized: 0,
     id: 0,
     quant: None,
+    octa: None,
 };
 
 /// The kd-tree file of the cloud that a text means, and the map of its points. Refused by the text's first
@@ -37,7 +40,7 @@ pub fn kd_due(alloc: Global, text: Vec<u8>) -> Result<Due, Refusal>
     ensures early { (f : AnyFault) → declared_of_text text.items ≡ Err f → result ≡ Err (refusal.Fault f) }
     ensures kept { IfOk result (λ d. IsOkAnd (ply_read text.items) (IsKdCoded (output_bytes d.output) d.note.items)) }
 {
-    let geometry = text_read(alloc, text)?;
+    let geometry = text_read(alloc, text, PROFILE_TWO)?;
     kd_coded_due(alloc, geometry)
 }
 
@@ -70,13 +73,13 @@ fn kd_coded_due(alloc: Global, geometry: Geometry) -> Result<Due, Refusal>
     })
 }
 
-/// The text of the cloud that a kd-tree file means, which is read as that cloud, and no note. The file is freed before the
+/// The text of the cloud that a kd-tree file means, which is read as that cloud in profile 2, and no note. The file is freed before the
 /// text is made.
 #[tactic(auto, unfolding(crate::specs::Due::kd_text_due))]
 pub fn kd_text_due(alloc: Global, file: Vec<u8>) -> Result<Due, Refusal>
     ensures answer { Answers due_bytes (kd_text_due file.items) result }
     ensures early { (f : AnyFault) → kd_declared_of file.items ≡ Err f → result ≡ Err (refusal.Fault f) }
-    ensures kept { IfOk result (λ d. IsOkAnd (kd_meaning file.items) (IsReadAs (output_bytes d.output))) }
+    ensures kept { IfOk result (λ d. IsOkAnd (kd_meaning file.items) (IsReadAs PROFILE_TWO.number (output_bytes d.output))) }
 {
     let geometry = kd_file_read(alloc, file)?;
     let text = PlyText::new(alloc, geometry)?;
@@ -90,6 +93,7 @@ pub fn kd_text_due(alloc: Global, file: Vec<u8>) -> Result<Due, Refusal>
 fn kd_file_read(alloc: Global, file: Vec<u8>) -> Result<Geometry, Refusal>
     ensures answer { Answers (λ g. g) (kd_meaning file.items) result }
     ensures early { (f : AnyFault) → kd_declared_of file.items ≡ Err f → result ≡ Err (refusal.Fault f) }
+    ensures heads { IfOk result (λ g. IsTrue (has_heads PROFILE_TWO.number (heads_in g))) }
 {
     kd_decode(alloc, &file)
 }

@@ -3,11 +3,14 @@
 ghost use Rattle.std.specs.Prelude.{◌≡◌, ◌≤◌, [], map, string_bytes, length, Err, IfOk, IsOkAnd, IsTrue};
 ghost use Rattle.drc_base.specs.declared.faults.Fault.{Fault as AnyFault};
 ghost use Rattle.drc_base.specs.declared.faults.Refusal.TheVariants as refusal;
+ghost use Rattle.drc_base.specs.Profile.{profile_numbered};
 ghost use Rattle.drc_base.specs.Refusals.{Answers};
-ghost use Rattle.ply_text.specs.DeclaredLines.{declared_of_text};
-ghost use Rattle.ply_mesh.specs.Read.{ply_read};
+ghost use Rattle.attr_heads.specs.ProfileHeads.{has_heads};
+ghost use Rattle.mesh_model.specs.Contents.{heads_in};
+ghost use Rattle.ply_text.specs.DeclaredLines.{declared_of_text_in};
+ghost use Rattle.ply_mesh.specs.Read.{ply_read_in};
 ghost use Rattle.drc_gen.specs.GeneratedLaws.{IsSize};
-ghost use Rattle.drc_container.specs.reading.Stream.{meaning_of, declared_of};
+ghost use Rattle.drc_container.specs.reading.Stream.{meaning_in, declared_of};
 ghost use Rattle.drc_app.specs.Line.{IsSized};
 ghost use Rattle.drc_app.specs.Progress.{line_of};
 ghost use Rattle.drc_app.specs.Ends.{takes};
@@ -23,9 +26,7 @@ use crate::kd_files::{kd_due, kd_text_due};
 use crate::restoring::restored_due;
 use crate::summaries::summary_due;
 use crate::verifying::verified;
-use drc_base::{
-    Fault, Kind, MAX_INPUT_BYTES, Memory, PROFILE_TWO, ReadEnd, Refusal, Source, read_all,
-};
+use drc_base::{Fault, Kind, MAX_INPUT_BYTES, Memory, Profile, ReadEnd, Refusal, Source, read_all};
 use drc_container::{Choice, decode, encode};
 use drc_info::report;
 use drc_recode::decode_packed;
@@ -131,13 +132,17 @@ fn work(alloc: Global, command: Command, bytes: Vec<u8>) -> Result<Answer, Refus
     ensures differs { IfOk result (λ a. MayAnswer command a) }
 {
     match command {
-        Command::Enc(choice) => Ok(Answer::Due(stream_due(alloc, &choice, bytes)?)),
-        Command::Dec => Ok(Answer::Due(text_due(alloc, bytes)?)),
-        Command::Info => Ok(Answer::Due(report_due(alloc, &bytes)?)),
+        Command::Enc(choice, profile) => {
+            Ok(Answer::Due(stream_due(alloc, &choice, bytes, profile)?))
+        }
+        Command::Dec(profile) => Ok(Answer::Due(text_due(alloc, bytes, profile)?)),
+        Command::Info(profile) => Ok(Answer::Due(report_due(alloc, &bytes, profile)?)),
         Command::Gen(asked) => Ok(Answer::Due(gen_due(alloc, asked)?)),
-        Command::Recode(choice) => Ok(Answer::Due(recoded_due(alloc, &choice, bytes)?)),
-        Command::Restore => Ok(Answer::Due(restored_due(alloc, &bytes)?)),
-        Command::Verify(surface) => verified(alloc, surface, bytes),
+        Command::Recode(choice, profile) => {
+            Ok(Answer::Due(recoded_due(alloc, &choice, bytes, profile)?))
+        }
+        Command::Restore(profile) => Ok(Answer::Due(restored_due(alloc, &bytes, profile)?)),
+        Command::Verify(surface, profile) => verified(alloc, surface, bytes, profile),
         Command::KdEnc => Ok(Answer::Due(kd_due(alloc, bytes)?)),
         Command::KdDec => Ok(Answer::Due(kd_text_due(alloc, bytes)?)),
         Command::Help(topic) => Ok(Answer::Due(fixed_due(alloc, help_text(topic)))),
@@ -145,23 +150,33 @@ fn work(alloc: Global, command: Command, bytes: Vec<u8>) -> Result<Answer, Refus
     }
 }
 
-/// The stream of the geometry that a text means, coded as chosen, and the map of its faces or points.
-fn stream_due(alloc: Global, choice: &Choice, text: Vec<u8>) -> Result<Due, Refusal>
-    ensures answer { Answers due_bytes (stream_due choice.now text.items) result }
-    ensures early { (f : AnyFault) → declared_of_text text.items ≡ Err f → result ≡ Err (refusal.Fault f) }
-    ensures kept { IfOk result (λ d. IsOkAnd (ply_read text.items) (IsCoded choice.now (output_bytes d.output) d.note.items)) }
+/// The stream of the geometry that a text means in a profile, coded as chosen, and the map of its faces or points.
+fn stream_due(
+    alloc: Global,
+    choice: &Choice,
+    text: Vec<u8>,
+    profile: Profile,
+) -> Result<Due, Refusal>
+    ensures answer { Answers due_bytes (stream_due (profile_numbered profile.number) choice.now text.items) result }
+    ensures early { (f : AnyFault) → declared_of_text_in profile.number text.items ≡ Err f → result ≡ Err (refusal.Fault f) }
+    ensures kept { IfOk result (λ d. IsOkAnd (ply_read_in profile.number text.items) (IsCoded choice.now (output_bytes d.output) d.note.items)) }
 {
-    let geometry = text_read(alloc, text)?;
+    let geometry = text_read(alloc, text, profile)?;
     coded_due(alloc, choice, &geometry)
 }
 
-/// The stream of the geometry that a stream means, coded as chosen, and the map of its faces or points.
-fn recoded_due(alloc: Global, choice: &Choice, stream: Vec<u8>) -> Result<Due, Refusal>
-    ensures answer { Answers due_bytes (recoded_due choice.now stream.items) result }
+/// The stream of the geometry that a stream means in a profile, coded as chosen, and the map of its faces or points.
+fn recoded_due(
+    alloc: Global,
+    choice: &Choice,
+    stream: Vec<u8>,
+    profile: Profile,
+) -> Result<Due, Refusal>
+    ensures answer { Answers due_bytes (recoded_due (profile_numbered profile.number) choice.now stream.items) result }
     ensures early { (f : AnyFault) → declared_of stream.items ≡ Err f → result ≡ Err (refusal.Fault f) }
-    ensures kept { IfOk result (λ d. IsOkAnd (meaning_of stream.items) (IsCoded choice.now (output_bytes d.output) d.note.items)) }
+    ensures kept { IfOk result (λ d. IsOkAnd (meaning_in (profile_numbered profile.number) stream.items) (IsCoded choice.now (output_bytes d.output) d.note.items)) }
 {
-    let geometry = stream_packed(alloc, stream)?;
+    let geometry = stream_packed(alloc, stream, profile)?;
     coded_due(alloc, choice, &geometry)
 }
 
@@ -179,22 +194,22 @@ fn coded_due(alloc: Global, choice: &Choice, geometry: &Geometry) -> Result<Due,
     })
 }
 
-/// The geometry that a text means. The text is freed.
-pub fn text_read(alloc: Global, text: Vec<u8>) -> Result<Geometry, Refusal>
-    ensures answer { Answers (λ g. g) (ply_read text.items) result }
-    ensures early { (f : AnyFault) → declared_of_text text.items ≡ Err f → result ≡ Err (refusal.Fault f) }
+/// The geometry that a text means in a profile. The text is freed.
+pub fn text_read(alloc: Global, text: Vec<u8>, profile: Profile) -> Result<Geometry, Refusal>
+    ensures answer { Answers (λ g. g) (ply_read_in profile.number text.items) result }
+    ensures early { (f : AnyFault) → declared_of_text_in profile.number text.items ≡ Err f → result ≡ Err (refusal.Fault f) }
 {
-    read_ply(alloc, &text)
+    read_ply(alloc, profile, &text)
 }
 
-/// The text of the geometry that a stream means, which is read as that geometry, and no note.
+/// The text of the geometry that a stream means in a profile, which is read as that geometry in it, and no note.
 #[tactic(auto, unfolding(crate::specs::Due::text_due))]
-fn text_due(alloc: Global, stream: Vec<u8>) -> Result<Due, Refusal>
-    ensures answer { Answers due_bytes (text_due stream.items) result }
+fn text_due(alloc: Global, stream: Vec<u8>, profile: Profile) -> Result<Due, Refusal>
+    ensures answer { Answers due_bytes (text_due (profile_numbered profile.number) stream.items) result }
     ensures early { (f : AnyFault) → declared_of stream.items ≡ Err f → result ≡ Err (refusal.Fault f) }
-    ensures kept { IfOk result (λ d. IsOkAnd (meaning_of stream.items) (IsReadAs (output_bytes d.output))) }
+    ensures kept { IfOk result (λ d. IsOkAnd (meaning_in (profile_numbered profile.number) stream.items) (IsReadAs profile.number (output_bytes d.output))) }
 {
-    let geometry = stream_read(alloc, stream)?;
+    let geometry = stream_read(alloc, stream, profile)?;
     let text = PlyText::new(alloc, geometry)?;
     Ok(Due {
         output: Output::Text(text),
@@ -202,29 +217,30 @@ fn text_due(alloc: Global, stream: Vec<u8>) -> Result<Due, Refusal>
     })
 }
 
-/// The geometry that a stream means. The stream is freed.
-fn stream_read(alloc: Global, stream: Vec<u8>) -> Result<Geometry, Refusal>
-    ensures answer { Answers (λ g. g) (meaning_of stream.items) result }
+/// The geometry that a stream means in a profile. The stream is freed.
+fn stream_read(alloc: Global, stream: Vec<u8>, profile: Profile) -> Result<Geometry, Refusal>
+    ensures answer { Answers (λ g. g) (meaning_in (profile_numbered profile.number) stream.items) result }
     ensures early { (f : AnyFault) → declared_of stream.items ≡ Err f → result ≡ Err (refusal.Fault f) }
+    ensures heads { IfOk result (λ g. IsTrue (has_heads profile.number (heads_in g))) }
 {
-    decode(alloc, &stream, PROFILE_TWO)
+    decode(alloc, &stream, profile)
 }
 
-/// The geometry that a stream means, for encoding it again. The stream is freed.
-fn stream_packed(alloc: Global, stream: Vec<u8>) -> Result<Geometry, Refusal>
-    ensures answer { Answers (λ g. g) (meaning_of stream.items) result }
+/// The geometry that a stream means in a profile, for encoding it again. The stream is freed.
+fn stream_packed(alloc: Global, stream: Vec<u8>, profile: Profile) -> Result<Geometry, Refusal>
+    ensures answer { Answers (λ g. g) (meaning_in (profile_numbered profile.number) stream.items) result }
     ensures early { (f : AnyFault) → declared_of stream.items ≡ Err f → result ≡ Err (refusal.Fault f) }
 {
-    decode_packed(alloc, &stream, PROFILE_TWO)
+    decode_packed(alloc, &stream, profile)
 }
 
-/// The report on a stream, and no note.
+/// The report on a stream in a profile, and no note.
 #[tactic(auto, unfolding(crate::specs::Due::report_due))]
-fn report_due(alloc: Global, stream: &[u8]) -> Result<Due, Refusal>
-    ensures answer { Answers due_bytes (report_due stream.now) result }
+fn report_due(alloc: Global, stream: &[u8], profile: Profile) -> Result<Due, Refusal>
+    ensures answer { Answers due_bytes (report_due (profile_numbered profile.number) stream.now) result }
     ensures early { (f : AnyFault) → declared_of stream.now ≡ Err f → result ≡ Err (refusal.Fault f) }
 {
-    let output = report(alloc, stream, PROFILE_TWO)?;
+    let output = report(alloc, stream, profile)?;
     Ok(Due {
         output: Output::Bytes(output),
         note: Vec::new(alloc),

@@ -3,6 +3,7 @@
 ghost use Rattle.std.specs.Prelude.{◌≡◌, None, Some, Err, MatchOption, IfOk};
 ghost use Rattle.drc_base.specs.declared.faults.Fault.{Fault as AnyFault};
 ghost use Rattle.drc_base.specs.declared.faults.Refusal.TheVariants as refusal;
+ghost use Rattle.drc_base.specs.Profile.{profile_numbered};
 ghost use Rattle.drc_base.specs.Refusals.{Answers};
 ghost use Rattle.mesh_model.specs.MapRead.{limited_head_at};
 ghost use Rattle.drc_app.specs.Verified.{ply_line, text_and_stream, same_line, given_by, verified_input};
@@ -13,7 +14,7 @@ ghost use Rattle.drc_app.specs.declared.commands.Command.TheVariants as Command;
 use crate::map_inputs::behind_map;
 use crate::outcomes::{Answer, Due, Output};
 use decimal_text::append_number;
-use drc_base::{Fault, Kind, Memory, PROFILE_TWO, Refusal};
+use drc_base::{Fault, Kind, Memory, Profile, Refusal};
 use drc_verify::{Verdict, verify_read};
 use mesh_model::{read_map, read_number};
 use ply_mesh::read_ply;
@@ -59,14 +60,19 @@ fn given_by(alloc: Global, count: u64, verdict: Verdict) -> Result<Answer, Memor
     }
 }
 
-/// Whether the stream in an input is the geometry of the text in it by the rows of the map in it, and with
+/// Whether the stream in an input, read in a profile, is the geometry of the text in it by the rows of the map in it, and with
 /// `surface` whether it is glued as that: the line of a yes and no note, or the verdict.
 #[tactic(auto, unfolding(crate::specs::Verified::parts_of, crate::specs::Verified::verified_input, drc_verify::specs::Checked::verdict_in))]
-pub fn verified(alloc: Global, surface: bool, input: Vec<u8>) -> Result<Answer, Refusal>
-    ensures answer { Answers seen (verified_input surface input.items) result }
+pub fn verified(
+    alloc: Global,
+    surface: bool,
+    input: Vec<u8>,
+    profile: Profile,
+) -> Result<Answer, Refusal>
+    ensures answer { Answers seen (verified_input (profile_numbered profile.number) surface input.items) result }
     ensures early { (f : AnyFault) → limited_head_at input.items ≡ Err f → result ≡ Err (refusal.Fault f) }
-    ensures says { IfOk result (λ a. SaysWhetherSame surface input.items (seen a)) }
-    ensures differs { IfOk result (λ a. MayAnswer (Command.Verify surface) a) }
+    ensures says { IfOk result (λ a. SaysWhetherSame (profile_numbered profile.number) surface input.items (seen a)) }
+    ensures differs { IfOk result (λ a. MayAnswer (Command.Verify surface profile) a) }
 {
     let map = read_map(alloc, &input)?;
     let count = map.rows.rows.len() as u64;
@@ -74,10 +80,10 @@ pub fn verified(alloc: Global, surface: bool, input: Vec<u8>) -> Result<Answer, 
         Some(parts) => parts,
         None => return Err(Refusal::Fault(Fault::new(Kind::MapForm, count + 2))),
     };
-    let geometry = read_ply(alloc, text)?;
+    let geometry = read_ply(alloc, profile, text)?;
     let stream = Vec::from_slice(alloc, stream)?;
     // The text is the largest part, and nothing needs it any more.
     drop(input);
-    let verdict = verify_read(alloc, &map, &geometry, &stream, surface, PROFILE_TWO)?;
+    let verdict = verify_read(alloc, &map, &geometry, &stream, surface, profile)?;
     Ok(given_by(alloc, count, verdict)?)
 }

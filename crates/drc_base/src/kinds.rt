@@ -172,6 +172,8 @@ pub enum Kind {
     KdSplit,
     /// A mesh where a cloud is expected.
     KdMesh,
+    /// A projection of texture coordinates that doesn't fit its numbers.
+    Projection,
 }
 
 impl Kind {
@@ -264,6 +266,7 @@ impl Kind {
             Kind::KdBits => "KdBits",
             Kind::KdSplit => "KdSplit",
             Kind::KdMesh => "KdMesh",
+            Kind::Projection => "Projection",
         }
     }
 }

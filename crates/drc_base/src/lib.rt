@@ -30,7 +30,7 @@ pub use limits::{
 };
 pub use mem_sink::MemSink;
 pub use mem_source::MemSource;
-pub use profiles::{PROFILE_TWO, Profile};
+pub use profiles::{PROFILE_THREE, PROFILE_TWO, Profile};
 pub use reading::read_all;
 pub use sequences::Sequence;
 pub use sides::Side;

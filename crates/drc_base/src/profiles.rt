@@ -14,6 +14,9 @@ pub struct Profile {
 /// multi-parallelogram prediction.
 pub const PROFILE_TWO: Profile = Profile { number: 2 };
 
+/// The profile that adds octahedral normals, and the predictions of normals and of texture coordinates from positions.
+pub const PROFILE_THREE: Profile = Profile { number: 3 };
+
 impl Profile {
     /// Whether the profile has what came with this one.
     pub fn has(self, since: u32) -> bool

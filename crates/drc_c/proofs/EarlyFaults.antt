@@ -1,10 +1,9 @@
 -- Faults of arrays that come before out of memory.
-use Rattle.std.proofs.Common.{◌≡◌, ◌≤◌, ◌<◌, ◌/◌, ℕ, ℤ, Bool, true, false, cond, eqb, List, [], ◌∷◌, ◌++◌, length, map, take, min, Option, None, Some, Result, Ok, Err, refl, ap, ◌∙◌, sym, arith, subst}
+use Rattle.std.proofs.Common.{◌≡◌, ◌≤◌, ◌<◌, ◌/◌, ℕ, ℤ, Bool, true, false, ◌&&◌, ◌==◌, cond, eqb, List, [], ◌∷◌, ◌++◌, length, map, min, Option, None, Some, Ok, Err, refl, sym, arith, subst}
 use Rattle.std.proofs.lemmas.Bool.{eq-eqb}
-use Rattle.std.proofs.lemmas.List.{length-map, length-take-le}
+use Rattle.std.proofs.lemmas.List.{length-take-le}
 use Rattle.drc_base.specs.declared.faults.Fault.{Fault}
 use Rattle.attr_heads.specs.declared.heads.Head.{Head}
-use Rattle.attr_heads.specs.declared.quants.Quant.{Quant}
 use Rattle.attr_heads.specs.FirstFault.{first_fault, value_unless}
 use Rattle.attr_heads.specs.DataTypes.{is_float}
 use Rattle.attr_heads.specs.Quants.{has_minima}
@@ -13,14 +12,14 @@ use Rattle.mesh_model.specs.Parts.{count_fault, faces_fault, index_fault, range_
 use Rattle.mesh_model.specs.Held.{geometry_of}
 use Rattle.attr_heads.proofs.Widths.{width_of-bounds}
 use Rattle.drc_c.specs.declared.heads.DrcHead.{DrcHead}
-use Rattle.drc_c.specs.Heads.{head_meant, quant_meant}
+use Rattle.drc_c.specs.Heads.{head_meant, quant_under}
 use Rattle.drc_c.specs.Inputs.{width_told, geometry_meant, geometry_made}
 use Rattle.drc_c.specs.Early.{arrays_early_fault}
 use Rattle.drc_c.proofs.WholeRows.{width_of-meant}
 
 -- a head with a quantisation, or without one, has a minimum for each of up to eight components
 minima_when : (quantised : Bool) (h : DrcHead) → length h.min ≡ 8 → h.comps ≤ 8 →
-    has_minima h.comps (cond quantised (Some (quant_meant h)) None) ≡ true
+    has_minima h.comps (quant_under quantised h) ≡ true
 minima_when true h eight few =
     let least : min h.comps 8 ≡ h.comps = omega arith in
     let long = length-take-le (min h.comps 8) h.min (omega arith) in
@@ -29,7 +28,7 @@ minima_when false h eight few = refl
 
 -- the head that is meant has them
 pub minima_there : (h : DrcHead) → length h.min ≡ 8 → h.comps ≤ 8 → has_minima h.comps (head_meant h).quant ≡ true
-minima_there h eight few = minima_when (is_float h.dtype) h eight few
+minima_there h eight few = minima_when (is_float h.dtype && h.octahedral_bits == 0) h eight few
 
 -- of heads that pass the width is 1 to 128
 pub width_bounds : (heads : List DrcHead) → heads_fault (map head_meant heads) ≡ None → (0 < width_told heads) × (width_told heads ≤ 128)

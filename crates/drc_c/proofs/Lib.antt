@@ -3,5 +3,8 @@ pub mod Filling
 pub mod WholeRows
 pub mod EarlyFaults
 pub mod EncodedArrays
+pub mod RecodedStreams
+pub mod RowCounts
+pub mod UnfitRows
 pub mod VerifiedArrays
 pub mod ToldHeads

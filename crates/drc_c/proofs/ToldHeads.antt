@@ -1,17 +1,19 @@
 -- Heads as C has them mean the heads that they were.
-use Rattle.std.proofs.Common.{◌≡◌, ◌≤◌, ◌+◌, ℕ, true, false, cond, leb, eqb, List, [], ◌∷◌, ◌++◌, length, map, take, drop, min, replicate, Option, None, Some, refl, ap, ◌∙◌, subst, arith}
-use Rattle.std.proofs.lemmas.Bool.{and_parts, eqb-true, leb-true, ne_eqb}
+use Rattle.std.proofs.Common.{◌≡◌, ◌≤◌, ◌+◌, ℕ, true, false, cond, leb, List, [], ◌∷◌, ◌++◌, length, map, take, drop, ◌&&◌, ◌==◌, min, replicate, Option, None, Some, refl, ap, ◌∙◌, subst, arith, ne_eqb}
+use Rattle.std.proofs.lemmas.Bool.{and_parts, eqb-true, leb-true, false≢true}
 use Rattle.std.proofs.lemmas.List.{take_all, length-map}
 use Rattle.std.proofs.Math.Seq.{take-append_seam}
-use Rattle.drc_base.specs.declared.kinds.Kind.TheVariants.{NoAttribute, AttrLimit, AttrType, DataType, Components}
+use Rattle.drc_base.specs.declared.kinds.Kind.TheVariants.{NoAttribute, AttrLimit}
 use Rattle.attr_heads.specs.declared.quants.Quant.{Quant}
 use Rattle.attr_heads.specs.declared.heads.Head.{Head}
 use Rattle.attr_heads.specs.FirstFault.{unless}
 use Rattle.attr_heads.specs.Quants.{has_minima}
+use Rattle.attr_heads.specs.Octahedra.{are_octahedral_bits, has_square_bits}
 use Rattle.attr_heads.specs.Head.{has_type, head_fault, each_fault, heads_fault}
-use Rattle.attr_heads.proofs.FirstFaults.{unless-none, first_fault-none}
+use Rattle.attr_heads.proofs.FirstFaults.{first_fault-none}
+use Rattle.attr_heads.proofs.Passing.{head_says}
 use Rattle.drc_c.specs.Arrays.{put_front}
-use Rattle.drc_c.specs.Heads.{blank_head, bits_told, range_told, minima_told, head_told, heads_told, head_meant}
+use Rattle.drc_c.specs.Heads.{blank_head, bits_told, octahedral_bits_told, range_told, minima_told, head_told, heads_told, head_meant, octa_meant}
 use Rattle.attr_heads.specs.DataTypes.{is_float}
 use Rattle.attr_heads.proofs.Types.{integer_no_float}
 use Rattle.drc_c.specs.HeadLaws.{ToldHeadsMean}
@@ -23,24 +25,36 @@ minima_again comps minima zeros are few eight =
     let all : take (length zeros) minima ≡ minima = take_all (length zeros) minima (omega arith) in
     rw (eq, all) (take-append_seam minima (drop (length minima) zeros))
 
--- the quantisation of a head of this data type and so many components
-quant_again : (dtype comps : ℕ) (q : Option Quant) → has_type dtype q ≡ true → has_minima comps q ≡ true → comps ≤ 8 →
-    cond (is_float dtype) (Some (record { bits = bits_told q; range = range_told q; min = take (min comps 8) (minima_told q) })) None ≡ q
+-- the bits of a square aren't 0
+octahedral_some : (bits : ℕ) → are_octahedral_bits bits ≡ true → (bits == 0) ≡ false
+octahedral_some bits square = ne_eqb bits 0 (λ none. absurd (omega (arith, leb-true 2 bits (and_parts (leb 2 bits) (leb bits 30) square).0, none)))
+
+-- the quantisation of a head of this data type and so many components, with this square
+quant_again : (dtype comps : ℕ) (q : Option Quant) (octa : Option ℕ) → has_type dtype q octa ≡ true → has_minima comps q ≡ true → comps ≤ 8 →
+    has_square_bits octa ≡ true →
+    cond (is_float dtype && octahedral_bits_told octa == 0) (Some (record { bits = bits_told q; range = range_told q; min = take (min comps 8) (minima_told q) })) None ≡ q
 unfolding minima_told
-quant_again dtype comps None type minima few =
+quant_again dtype comps None None type minima few square =
     rw (integer_no_float dtype type) refl
-quant_again dtype comps (Some q) type minima few =
+quant_again dtype comps None (Some bits) type minima few square =
+    rw (type, octahedral_some bits square) refl
+quant_again dtype comps (Some q) None type minima few square =
     rw type (ap (λ (m : List ℕ). Some (record { bits = q.bits; range = q.range; min = m }))
     (minima_again comps q.min (replicate 8 0) (eqb-true (length q.min) comps minima) few refl))
+quant_again dtype comps (Some q) (Some bits) type minima few square = absurd (false≢true type)
+
+-- the square of a head
+octa_again : (octa : Option ℕ) → has_square_bits octa ≡ true → octa_meant (octahedral_bits_told octa) ≡ octa
+octa_again None square = refl
+octa_again (Some bits) square = rw (octahedral_some bits square) refl
 
 -- a head that passes
 head_again : (k : ℕ) (h : Head) → head_fault k h ≡ None → head_meant (head_told h) ≡ h
 head_again k h e =
-    let usage = first_fault-none (unless (leb h.usage 4) AttrType k) _ e in
-    let types = first_fault-none (unless (has_type h.dtype h.quant) DataType k) _ usage.1 in
-    let comps = and_parts _ _ (unless-none _ Components k (first_fault-none _ _ types.1).0) in
-    let few = leb-true h.comps 8 (and_parts _ _ comps.0).1 in
-    ap (λ (q : Option Quant). record h { quant = q }) (quant_again h.dtype h.comps h.quant (unless-none _ DataType k types.0) comps.1 few)
+    let says = head_says k h e in
+    ap (λ (q : Option Quant). record h { quant = q; octa = octa_meant (octahedral_bits_told h.octa) })
+    (quant_again h.dtype h.comps h.quant h.octa says.typed says.minima says.few says.square)
+    ∙ ap (λ (o : Option ℕ). record h { octa = o }) (octa_again h.octa says.square)
 
 -- heads each of which passes
 each_again : (k : ℕ) (heads : List Head) → each_fault k heads ≡ None → map head_meant (map head_told heads) ≡ heads

@@ -1,5 +1,6 @@
 -- Geometries that arrays of C mean (this project's choice).
 use Rattle.std.specs.Prelude.{ℕ, ◌==◌, ◌&&◌, ◌||◌, ◌%◌, ℤ, Bool, true, List, length, map, sum_by, nat_lt, None, Some, Result, if◌then◌else◌}
+use Rattle.std.specs.List.{list_all}
 use Rattle.drc_base.specs.declared.faults.Fault.{Fault}
 use Rattle.drc_base.specs.declared.limits.TheConstants.{MAX_ATTRIBUTES}
 use Rattle.attr_heads.specs.declared.heads.Head.{Head}
@@ -18,9 +19,14 @@ are_whole heads values =
     if nat_lt MAX_ATTRIBUTES (length heads) then true
     else (width_told heads == 0 || (length values % width_told heads == 0))
 
--- whether arrays fit each other: 1 a mesh, or 0 a cloud, which has no faces; and whole rows
+-- whether what is spare in heads is 0
+abbrev pub are_clear : List DrcHead → Bool
+are_clear heads = list_all (λ h. h.spare == 0) heads
+
+-- whether arrays fit each other: 1 a mesh, or 0 a cloud, which has no faces; heads with nothing in what is spare; and whole rows
 abbrev pub do_fit : ℕ → List DrcHead → List (List ℕ) → List ℤ → Bool
-do_fit mesh heads corners values = (mesh == 1 || (mesh == 0 && (length corners == 0))) && are_whole heads values
+do_fit mesh heads corners values =
+    ((mesh == 1 || (mesh == 0 && (length corners == 0))) && are_clear heads) && are_whole heads values
 
 -- the geometry of heads, faces and integers, or its first fault: 1 a mesh, else a cloud
 unfoldable pub geometry_made : ℕ → List Head → List (List ℕ) → List ℤ → Result Geometry Fault

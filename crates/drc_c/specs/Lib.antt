@@ -3,8 +3,11 @@ pub mod Arrays
 pub mod Heads
 pub mod HeadLaws
 pub mod Shapes
+pub mod Profiles
+pub mod Limits
 pub mod Options
 pub mod Streams
+pub mod Reports
 pub mod Inputs
 pub mod Early
 pub mod Encoded

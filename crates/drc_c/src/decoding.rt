@@ -1,20 +1,22 @@
 //! Decoding: bytes to arrays.
 
-ghost use Rattle.std.specs.Prelude.{◌≡◌, ◌⊎◌, [], ◌∷◌, Contains, true, false, Ok, Err, length};
+ghost use Rattle.std.specs.Prelude.{◌≡◌, ◌↔◌, ◌⊎◌, [], ◌∷◌, Contains, true, false, Ok, Err, length};
 ghost use Rattle.drc_base.specs.declared.faults.Fault.{Fault as AnyFault};
+ghost use Rattle.drc_base.specs.Profile.{profile_numbered};
 ghost use Rattle.mesh_model.specs.declared.geometries.Geometry.{Geometry as AnyGeometry};
 ghost use Rattle.mesh_model.specs.Contents.{faces_in};
-ghost use Rattle.drc_container.specs.reading.Stream.{meaning_of, declared_of};
+ghost use Rattle.drc_container.specs.reading.Stream.{meaning_in, declared_of};
 ghost use Rattle.drc_c.specs.Arrays.{filled};
 ghost use Rattle.drc_c.specs.Faults.{IsTold};
+ghost use Rattle.drc_c.specs.Profiles.{is_profile};
 ghost use Rattle.drc_c.specs.Shapes.{shape_of, integers_of, LacksRoom};
 
 use crate::arrays::fill;
 use crate::faults::{DrcFault, refuse};
 use crate::handing::{Arrays, arrays_of, handed_corners, handed_values};
+use crate::profiles::profile_asked;
 use crate::shapes::{DrcShape, faces_in, integers_of, shape_of};
-use crate::statuses::{DONE, NO_MEMORY, NO_ROOM, REFUSED};
-use drc_base::PROFILE_TWO;
+use crate::statuses::{BAD_ARGUMENT, DONE, NO_MEMORY, NO_ROOM, REFUSED};
 use drc_container::decode;
 use mesh_model::Geometry;
 use std::alloc::Global;
@@ -63,43 +65,49 @@ fn deliver(g: &Geometry, corners: &mut [[u32; 3]], values: &mut [i32], shape: &m
     NO_ROOM
 }
 
-/// Decodes a stream into arrays of the caller: the numbers of the three points of each face, and the integers
-/// of all points, point after point. Bytes after the stream's end are ignored.
+/// Decodes a stream, read in a profile, into arrays of the caller: the numbers of the three points of each face, and the
+/// integers of all points, point after point. Bytes after the stream's end are ignored.
 ///
-/// `DONE`: the arrays begin with the faces and the integers, and the shape is that of the geometry. `NO_ROOM`:
-/// one of the arrays is too short for a stream that means a geometry; the shape says what is needed, and the
-/// arrays are as before. `REFUSED`: the stream has this first fault, and all else is as before. `NO_MEMORY`: nothing
-/// is written. Faults of the header and of the declared numbers come before out of memory.
+/// `DONE`: the arrays begin with the faces and the integers, and the shape is that of the geometry. `BAD_ARGUMENT`: just
+/// where `profile` is neither 2 nor 3. `NO_ROOM`: one of the arrays is too short for a stream that means a geometry; the shape
+/// says what is needed, and the arrays are as before. `REFUSED`: the stream has this first fault, and all else is as before.
+/// `NO_MEMORY`: nothing is written. Faults of the header and of the declared numbers come before out of memory.
 #[unsafe(no_mangle)]
 pub extern "C" fn drc_decode_into(
     alloc: Global,
     bytes: &[u8],
+    profile: u32,
     corners: &mut [[u32; 3]],
     values: &mut [i32],
     shape: &mut DrcShape,
     fault: &mut DrcFault,
 ) -> u32
-    ensures statuses { Contains (DONE ∷ REFUSED ∷ NO_MEMORY ∷ NO_ROOM ∷ []) result }
-    ensures done { result ≡ DONE → (g : AnyGeometry) × (meaning_of bytes.now ≡ Ok g) × (shape.new ≡ shape_of g)
+    ensures statuses { Contains (DONE ∷ BAD_ARGUMENT ∷ REFUSED ∷ NO_MEMORY ∷ NO_ROOM ∷ []) result }
+    ensures done { result ≡ DONE → (g : AnyGeometry) × (meaning_in (profile_numbered profile) bytes.now ≡ Ok g) × (shape.new ≡ shape_of g)
         × (corners.new ≡ filled (faces_in g) corners.old) × (values.new ≡ filled (integers_of g) values.old) }
-    ensures no_room { result ≡ NO_ROOM → (g : AnyGeometry) × (meaning_of bytes.now ≡ Ok g) × (shape.new ≡ shape_of g)
+    ensures no_room { result ≡ NO_ROOM → (g : AnyGeometry) × (meaning_in (profile_numbered profile) bytes.now ≡ Ok g) × (shape.new ≡ shape_of g)
         × LacksRoom g (length corners.old) (length values.old) }
-    ensures refused { result ≡ REFUSED → (f : AnyFault) × (meaning_of bytes.now ≡ Err f) × IsTold f fault.new }
-    ensures early { (f : AnyFault) → declared_of bytes.now ≡ Err f → (result ≡ REFUSED) × IsTold f fault.new }
+    ensures refused { result ≡ REFUSED → (f : AnyFault) × (meaning_in (profile_numbered profile) bytes.now ≡ Err f) × IsTold f fault.new }
+    ensures bad { result ≡ BAD_ARGUMENT ↔ is_profile profile ≡ false }
+    ensures early { (f : AnyFault) → is_profile profile ≡ true → declared_of bytes.now ≡ Err f → (result ≡ REFUSED) × IsTold f fault.new }
 
     // What isn't written is as before.
     ensures arrays_same { (result ≡ DONE) ⊎ ((corners.new ≡ corners.old) × (values.new ≡ values.old)) }
     ensures shape_same { (result ≡ DONE) ⊎ (result ≡ NO_ROOM) ⊎ (shape.new ≡ shape.old) }
     ensures fault_same { (result ≡ REFUSED) ⊎ (fault.new ≡ fault.old) }
 {
-    match decode(alloc, bytes, PROFILE_TWO) {
+    let profile = match profile_asked(profile) {
+        None => return BAD_ARGUMENT,
+        Some(profile) => profile,
+    };
+    match decode(alloc, bytes, profile) {
         Ok(g) => deliver(&g, corners, values, shape),
         Err(refusal) => refuse(refusal, fault),
     }
 }
 
 /// A geometry in arrays that C frees.
-fn handed_out(alloc: Global, g: Geometry) -> DrcGeometry
+pub fn handed_out(alloc: Global, g: Geometry) -> DrcGeometry
     ensures { result.shape ≡ shape_of g }
 {
     let shape = shape_of(&g);
@@ -111,29 +119,35 @@ fn handed_out(alloc: Global, g: Geometry) -> DrcGeometry
     }
 }
 
-/// Decodes a stream into arrays of its own, which C's `free` frees: the numbers of the three points of each
-/// face, and the integers of all points, point after point. Bytes after the stream's end are ignored.
+/// Decodes a stream, read in a profile, into arrays of its own, which C's `free` frees: the numbers of the three points of
+/// each face, and the integers of all points, point after point. Bytes after the stream's end are ignored.
 ///
-/// `DONE`: the geometry is what the stream means. `REFUSED`: the stream has this first fault. `NO_MEMORY`: nothing is
-/// written. The geometry is as before unless it is done. Faults of the header and of the declared numbers come
-/// before out of memory.
+/// `DONE`: the geometry is what the stream means. `BAD_ARGUMENT`: just where `profile` is neither 2 nor 3. `REFUSED`: the stream
+/// has this first fault. `NO_MEMORY`: nothing is written. The geometry is as before unless it is done. Faults of the header and
+/// of the declared numbers come before out of memory.
 #[unsafe(no_mangle)]
 pub extern "C" fn drc_decode(
     alloc: Global,
     bytes: &[u8],
+    profile: u32,
     out: &mut DrcGeometry,
     fault: &mut DrcFault,
 ) -> u32
-    ensures statuses { Contains (DONE ∷ REFUSED ∷ NO_MEMORY ∷ []) result }
-    ensures done { result ≡ DONE → (g : AnyGeometry) × (meaning_of bytes.now ≡ Ok g) × (out.new.shape ≡ shape_of g) }
-    ensures refused { result ≡ REFUSED → (f : AnyFault) × (meaning_of bytes.now ≡ Err f) × IsTold f fault.new }
-    ensures early { (f : AnyFault) → declared_of bytes.now ≡ Err f → (result ≡ REFUSED) × IsTold f fault.new }
+    ensures statuses { Contains (DONE ∷ BAD_ARGUMENT ∷ REFUSED ∷ NO_MEMORY ∷ []) result }
+    ensures done { result ≡ DONE → (g : AnyGeometry) × (meaning_in (profile_numbered profile) bytes.now ≡ Ok g) × (out.new.shape ≡ shape_of g) }
+    ensures refused { result ≡ REFUSED → (f : AnyFault) × (meaning_in (profile_numbered profile) bytes.now ≡ Err f) × IsTold f fault.new }
+    ensures bad { result ≡ BAD_ARGUMENT ↔ is_profile profile ≡ false }
+    ensures early { (f : AnyFault) → is_profile profile ≡ true → declared_of bytes.now ≡ Err f → (result ≡ REFUSED) × IsTold f fault.new }
 
     // What isn't written is as before.
     ensures geometry_same { (result ≡ DONE) ⊎ (out.new ≡ out.old) }
     ensures fault_same { (result ≡ REFUSED) ⊎ (fault.new ≡ fault.old) }
 {
-    match decode(alloc, bytes, PROFILE_TWO) {
+    let profile = match profile_asked(profile) {
+        None => return BAD_ARGUMENT,
+        Some(profile) => profile,
+    };
+    match decode(alloc, bytes, profile) {
         Ok(g) => {
             *out = handed_out(alloc, g);
             DONE

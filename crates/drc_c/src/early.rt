@@ -3,32 +3,59 @@
 ghost use Rattle.std.specs.Prelude.{◌≡◌, ◌<◌, ◌≤◌, ◌/◌, length, map, OnOk, IfOk};
 ghost use Rattle.attr_heads.specs.FirstFault.{Tests};
 ghost use Rattle.attr_heads.specs.Quants.{has_bits};
+ghost use Rattle.attr_heads.specs.Octahedra.{has_coordinates, has_square_bits};
 ghost use Rattle.attr_heads.specs.Head.{has_type, head_fault, each_fault, heads_fault};
 ghost use Rattle.mesh_model.specs.Parts.{count_fault, faces_fault};
 ghost use Rattle.drc_c.specs.Heads.{head_meant};
 ghost use Rattle.drc_c.specs.Inputs.{width_told};
 ghost use Rattle.drc_c.specs.Early.{arrays_early_fault};
 
-use crate::heads::DrcHead;
+use crate::heads::{DrcHead, is_quantised, octa_meant};
 use crate::inputs::{MESH, width_told};
-use attr_heads::{are_quant_bits, has_comps, is_float, is_integer, is_usage};
+use attr_heads::{
+    OCTAHEDRAL_INTEGERS, are_octahedral_bits, are_quant_bits, has_comps, is_float, is_integer,
+    is_usage,
+};
 use drc_base::{Fault, Kind, MAX_ATTRIBUTES, MAX_FACES, MAX_POINTS, MAX_VALUES};
 
-/// Whether the data type of a head is one.
+/// Whether a head's data type is one, and one of floats where the head has a square.
 fn has_type(head: &DrcHead) -> bool
-    ensures { result ≡ has_type head.now.dtype (head_meant head.now).quant }
+    ensures { result ≡ has_type head.now.dtype (head_meant head.now).quant (head_meant head.now).octa }
 {
-    is_float(head.dtype) || is_integer(head.dtype)
+    match octa_meant(head.octahedral_bits) {
+        None => is_float(head.dtype) || is_integer(head.dtype),
+        Some(_) => is_float(head.dtype),
+    }
+}
+
+/// Whether a head with a square has its two coordinates.
+fn has_coordinates(head: &DrcHead) -> bool
+    ensures { result ≡ has_coordinates head.now.comps (head_meant head.now).octa }
+{
+    match octa_meant(head.octahedral_bits) {
+        None => true,
+        Some(_) => head.comps == OCTAHEDRAL_INTEGERS,
+    }
 }
 
 /// Whether the bits of a head's quantisation, where it has one, are 1 to 30.
 fn has_bits(head: &DrcHead) -> bool
     ensures { result ≡ has_bits (head_meant head.now).quant }
 {
-    if is_float(head.dtype) {
+    if is_quantised(head) {
         return are_quant_bits(head.bits);
     }
     true
+}
+
+/// Whether the bits of a head's square, where it has one, are 2 to 30.
+fn has_square_bits(head: &DrcHead) -> bool
+    ensures { result ≡ has_square_bits (head_meant head.now).octa }
+{
+    match octa_meant(head.octahedral_bits) {
+        None => true,
+        Some(bits) => are_octahedral_bits(bits),
+    }
 }
 
 /// The first fault of head `k`.
@@ -43,10 +70,10 @@ fn test_head(k: usize, head: &DrcHead) -> Result<(), Fault>
     if !has_type(head) {
         return Err(Fault::new(Kind::DataType, at));
     }
-    if !has_comps(head.comps) {
+    if !has_comps(head.comps) || !has_coordinates(head) {
         return Err(Fault::new(Kind::Components, at));
     }
-    if !has_bits(head) {
+    if !has_bits(head) || !has_square_bits(head) {
         return Err(Fault::new(Kind::QuantBits, at));
     }
     Ok(())

@@ -1,7 +1,8 @@
 //! The heads of attributes as C has them.
 
-ghost use Rattle.std.specs.Prelude.{◌≡◌, ◌≤◌, length, map, IfOk};
-ghost use Rattle.drc_c.specs.Heads.{blank_head, head_told, heads_told, minima_told, bits_told, range_told, head_meant, quant_meant};
+ghost use Rattle.std.specs.Prelude.{◌≡◌, ◌≤◌, ◌==◌, ◌&&◌, length, map, replicate, IfOk};
+ghost use Rattle.attr_heads.specs.DataTypes.{is_float};
+ghost use Rattle.drc_c.specs.Heads.{blank_head, head_told, heads_told, minima_told, bits_told, octahedral_bits_told, range_told, head_meant, octa_meant, quant_meant};
 
 use crate::arrays::put_front;
 use attr_heads::{Head, Quant, is_float};
@@ -14,15 +15,15 @@ const COMPONENT_ROOM: usize = 8;
 /// How many heads a shape has room for.
 const HEAD_ROOM: usize = 16;
 
-/// What an attribute is, with its quantisation inline. Where the data type isn't 9, quantised floats, it has
-/// none: `bits`, `range` and `min` are 0 in what is decoded, and are ignored in what is encoded. Minima beyond
-/// the components are likewise 0 or ignored.
+/// What an attribute is, with its quantisation inline. Where the data type isn't 9, floats, or the attribute is
+/// octahedral, it has none: `bits`, `range` and `min` are 0 in what is decoded, and are ignored in what is encoded.
+/// Minima beyond the components are likewise 0 or ignored.
 #[repr(C)]
 #[derive(Clone, Copy, Debug)]
 pub struct DrcHead {
     /// 0 position, 1 normal, 2 colour, 3 texture coordinate, 4 generic.
     pub usage: u8,
-    /// 1 int8, 2 uint8, 3 int16, 4 uint16, 5 int32, 6 uint32 (values up to 2^31 - 1), 9 quantised float32.
+    /// 1 int8, 2 uint8, 3 int16, 4 uint16, 5 int32, 6 uint32 (values up to 2^31 - 1), 9 float32, quantised or octahedral.
     pub dtype: u8,
     /// Integers of one point, 1 to 8.
     pub comps: u8,
@@ -32,6 +33,10 @@ pub struct DrcHead {
     pub id: u32,
     /// Bits of each integer of a quantised float, 1 to 30.
     pub bits: u8,
+    /// Bits of the two coordinates of an octahedral attribute, 2 to 30; 0 where it isn't one.
+    pub octahedral_bits: u8,
+    /// 0, for what a later version may add.
+    pub spare: u16,
     /// The bit pattern of the range, a 32-bit float.
     pub range: u32,
     /// The bit pattern of the minimum of each component, 32-bit floats.
@@ -53,9 +58,18 @@ fn blank_head() -> DrcHead
         normalized: 0,
         id: 0,
         bits: 0,
+        octahedral_bits: 0,
+        spare: 0,
         range: 0,
         min: [0; COMPONENT_ROOM],
     }
+}
+
+/// Heads of zeros.
+pub fn blank_heads() -> [DrcHead; HEAD_ROOM]
+    ensures { result ≡ replicate 16 blank_head }
+{
+    [blank_head(); HEAD_ROOM]
 }
 
 /// The bits of a quantisation, where there is one.
@@ -65,6 +79,16 @@ fn bits_told(quant: &Option<Quant>) -> u8
     match quant {
         None => 0,
         Some(quant) => quant.bits,
+    }
+}
+
+/// The bits of a square, where there is one.
+fn octahedral_bits_told(octa: Option<u8>) -> u8
+    ensures { result ≡ octahedral_bits_told octa }
+{
+    match octa {
+        None => 0,
+        Some(bits) => bits,
     }
 }
 
@@ -104,6 +128,8 @@ fn head_told(head: &Head) -> DrcHead
         normalized: head.normalized,
         id: head.id,
         bits: bits_told(&head.quant),
+        octahedral_bits: octahedral_bits_told(head.octa),
+        spare: 0,
         range: range_told(&head.quant),
         min: minima_told(&head.quant),
     }
@@ -135,11 +161,25 @@ fn quant_meant(alloc: Global, told: &DrcHead) -> Result<Quant, Memory>
     })
 }
 
+/// The bits of the square of a head of C, where it has one.
+pub(crate) fn octa_meant(bits: u8) -> Option<u8>
+    ensures { result ≡ octa_meant bits }
+{
+    if bits == 0 { None } else { Some(bits) }
+}
+
+/// Whether a head of C means one with a quantisation: floats without a square have one.
+pub(crate) fn is_quantised(told: &DrcHead) -> bool
+    ensures { result ≡ (is_float told.now.dtype && told.now.octahedral_bits == 0) }
+{
+    is_float(told.dtype) && told.octahedral_bits == 0
+}
+
 /// The head that a head of C means.
 fn head_meant(alloc: Global, told: &DrcHead) -> Result<Head, Memory>
     ensures { IfOk result (λ h. h ≡ head_meant told.now) }
 {
-    let quant = if is_float(told.dtype) {
+    let quant = if is_quantised(told) {
         Some(quant_meant(alloc, told)?)
     } else {
         None
@@ -151,6 +191,7 @@ fn head_meant(alloc: Global, told: &DrcHead) -> Result<Head, Memory>
         normalized: told.normalized,
         id: told.id,
         quant,
+        octa: octa_meant(told.octahedral_bits),
     })
 }
 

@@ -8,7 +8,7 @@ ghost use Rattle.attr_heads.specs.FirstFault.{answer_of, value_unless};
 ghost use Rattle.mesh_model.specs.Parts.{AreRows};
 ghost use Rattle.drc_c.specs.Early.{arrays_early_fault};
 ghost use Rattle.drc_c.specs.Heads.{head_meant};
-ghost use Rattle.drc_c.specs.Inputs.{width_told, are_whole, do_fit, geometry_made, geometry_meant};
+ghost use Rattle.drc_c.specs.Inputs.{width_told, are_clear, are_whole, do_fit, geometry_made, geometry_meant};
 
 use crate::early::test_early;
 use crate::heads::{DrcHead, heads_meant};
@@ -46,11 +46,21 @@ fn are_whole(heads: &[DrcHead], values: &[i32]) -> bool
     width == 0 || values.len() % width as usize == 0
 }
 
-/// Whether arrays fit each other: a mesh or a cloud, which has no faces, of whole rows.
+/// Whether what is spare in heads is 0.
+fn are_clear(heads: &[DrcHead]) -> bool
+    ensures { result ≡ are_clear heads.now }
+{
+    heads.iter().all(|head| head.spare == 0)
+}
+
+/// Whether arrays fit each other: a mesh or a cloud, which has no faces, of heads with nothing in what is spare, and of whole
+/// rows.
 pub fn do_fit(mesh: u32, heads: &[DrcHead], corners: &[[u32; 3]], values: &[i32]) -> bool
     ensures { result ≡ do_fit mesh heads.now corners.now values.now }
 {
-    (mesh == MESH || (mesh == CLOUD && corners.is_empty())) && are_whole(heads, values)
+    (mesh == MESH || (mesh == CLOUD && corners.is_empty()))
+        && are_clear(heads)
+        && are_whole(heads, values)
 }
 
 /// The heads that arrays mean, or the first fault of the arrays that comes before out of memory: of the heads, and of

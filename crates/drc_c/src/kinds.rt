@@ -6,7 +6,7 @@ ghost use Rattle.std.specs.Prelude.{◌≡◌, Some, slice_get};
 use drc_base::Kind;
 
 /// How many kinds there are.
-const KIND_COUNT: usize = 82;
+const KIND_COUNT: usize = 83;
 
 /// The kinds in the order of their numbers, which is that of their type.
 pub const KINDS: [Kind; KIND_COUNT] = [
@@ -92,6 +92,7 @@ pub const KINDS: [Kind; KIND_COUNT] = [
     Kind::KdBits,
     Kind::KdSplit,
     Kind::KdMesh,
+    Kind::Projection,
 ];
 
 /// The number of a kind.

@@ -6,19 +6,25 @@
 #![tactic(auto)]
 
 mod arrays;
+mod declaring;
 mod decoding;
+mod decoding_within;
 mod early;
 mod encoding;
 mod faults;
 mod handing;
 mod heads;
+mod informing;
 mod inputs;
 mod kinds;
 mod laws;
+mod limits;
 mod names;
 mod options;
+mod profiles;
 mod recoding;
 mod restoring;
+mod row_counts;
 mod shapes;
 mod statuses;
 mod streams;

@@ -10,9 +10,9 @@ use crate::kinds::{KINDS, kind_numbered};
 use crate::statuses::{BAD_ARGUMENT, DONE, NO_ROOM};
 
 /// The version of the interface.
-const VERSION: u32 = 2;
+const VERSION: u32 = 3;
 
-/// The version of the interface: a later one has all that an earlier one had.
+/// The version of the interface: of the libraries of one soname, a later one has all that an earlier one had.
 #[unsafe(no_mangle)]
 pub extern "C" fn drc_version() -> u32
     ensures { result ≡ VERSION }
@@ -39,7 +39,7 @@ fn put_text(text: &[u8], name: &mut [u8]) -> u32
 /// Writes the word of a kind of faults, which is at most twelve bytes of ASCII, and a zero behind it.
 ///
 /// `DONE`: it is written. `BAD_ARGUMENT`: no kind has this number. `NO_ROOM`: the array is too short; thirteen bytes are
-/// enough for every kind. Nothing is written unless it is done.
+/// enough for every kind that there is. Nothing is written unless it is done.
 #[unsafe(no_mangle)]
 pub extern "C" fn drc_fault_name(kind: u32, name: &mut [u8]) -> u32
     ensures statuses { (result ≡ DONE) ⊎ (result ≡ BAD_ARGUMENT) ⊎ (result ≡ NO_ROOM) }

@@ -1,7 +1,7 @@
 //! What a geometry is, without its arrays.
 
-ghost use Rattle.std.specs.Prelude.{◌≡◌};
-ghost use Rattle.mesh_model.specs.Contents.{faces_in};
+ghost use Rattle.std.specs.Prelude.{◌≡◌, length};
+ghost use Rattle.mesh_model.specs.Contents.{faces_in, points_in};
 ghost use Rattle.drc_c.specs.Shapes.{shape_of, integers_of};
 
 use crate::heads::{DrcHead, heads_told};
@@ -70,6 +70,16 @@ pub fn shape_of(g: &Geometry) -> DrcShape
     match g {
         Geometry::Mesh(mesh) => mesh_shape(mesh),
         Geometry::Cloud(cloud) => cloud_shape(cloud),
+    }
+}
+
+/// How many points a geometry has.
+pub fn points_in(g: &Geometry) -> u32
+    ensures { result ≡ length (points_in g.now) }
+{
+    match g {
+        Geometry::Mesh(mesh) => mesh.point_count(),
+        Geometry::Cloud(cloud) => cloud.point_count(),
     }
 }
 

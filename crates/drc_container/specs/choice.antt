@@ -1,3 +1,4 @@
+pub mod Predicts
 pub mod Choice
 pub mod Refused
 pub mod CanCode

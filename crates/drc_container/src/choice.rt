@@ -4,4 +4,5 @@ pub mod choices;
 pub mod choosing;
 pub mod codings;
 pub mod methods;
+pub mod predicts;
 pub mod refusals;

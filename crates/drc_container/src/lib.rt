@@ -14,6 +14,7 @@ mod writing;
 
 pub use choice::choices::{Choice, Index, Walk};
 pub use choice::methods::Method;
+pub use choice::predicts::Predict;
 pub use laws::{
     encodable_meshes_are_encoded, old_files_keep_their_meaning, what_is_read_is_a_geometry,
 };

@@ -8,5 +8,6 @@ pub mod ordered_surface;
 pub mod ordering;
 pub mod seam_lists;
 pub mod seamed_surface;
+pub mod shared_classes;
 pub mod traced_surfaces;
 pub mod turned_meshes;

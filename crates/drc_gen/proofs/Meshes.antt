@@ -9,8 +9,8 @@ use Rattle.std.proofs.lemmas.Nat.{mul-le, mul-add-lt, mod_below}
 use Rattle.drc_base.specs.declared.faults.Fault.{Fault}
 use Rattle.attr_heads.specs.declared.heads.Head.{Head}
 use Rattle.attr_heads.specs.FirstFault.{value_unless}
-use Rattle.attr_heads.specs.DataTypes.{in_type}
-use Rattle.attr_heads.specs.Head.{heads_fault, types_of, width_of}
+use Rattle.attr_heads.specs.Bounds.{in_bounds, no_bounds, type_bounds}
+use Rattle.attr_heads.specs.Head.{heads_fault, row_bounds, width_of}
 use Rattle.mesh_model.specs.Parts.{MeshParts, RowFits, IsFaceOf, IsMesh, AreRows, cells_of, mesh_fault, range_fault, rows_of}
 use Rattle.mesh_model.proofs.Made.{mesh_of-IsMesh, AreRows-cells_of, range_fault-cells_of}
 use Rattle.drc_gen.specs.declared.kinds.GenKind.{GenKind}
@@ -81,15 +81,15 @@ narrow Fans = omega arith
 narrow Seams = omega arith
 
 -- a natural number is an int32, and a label an uint8
-int32-fits : (x : ℕ) → x < 2 ^ 31 → in_type 5 (pos x) ≡ true
-unfolding in_type
+int32-fits : (x : ℕ) → x < 2 ^ 31 → in_bounds (type_bounds 5) (pos x) ≡ true
+unfolding in_bounds
 int32-fits x small = le-leb x 2147483647 (omega arith)
 
-uint8-fits : (x : ℕ) → x < 256 → in_type 2 (pos x) ≡ true
-unfolding in_type
+uint8-fits : (x : ℕ) → x < 256 → in_bounds (type_bounds 2) (pos x) ≡ true
+unfolding in_bounds
 uint8-fits x small = ap (λ b. b && leb x 255) (le-leb 0 x (omega arith)) ∙ le-leb x 255 (omega arith)
 
-position-at : (x y z : ℕ) → x < 2 ^ 31 → y < 2 ^ 31 → z < 2 ^ 31 → (j : ℕ) → j < 3 → in_type (get_or (types_of (position_head ∷ [])) j 0) (get_or (pos x ∷ pos y ∷ pos z ∷ []) j (pos 0)) ≡ true
+position-at : (x y z : ℕ) → x < 2 ^ 31 → y < 2 ^ 31 → z < 2 ^ 31 → (j : ℕ) → j < 3 → in_bounds (get_or (row_bounds (position_head ∷ [])) j no_bounds) (get_or (pos x ∷ pos y ∷ pos z ∷ []) j (pos 0)) ≡ true
 position-at x y z hx hy hz zero below = int32-fits x hx
 position-at x y z hx hy hz (suc zero) below = int32-fits y hy
 position-at x y z hx hy hz (suc (suc zero)) below = int32-fits z hz
@@ -98,7 +98,7 @@ position-at x y z hx hy hz (suc (suc (suc j))) below = absurd (omega arith)
 position-fits : (x y z : ℕ) → x < 2 ^ 31 → y < 2 ^ 31 → z < 2 ^ 31 → RowFits (position_head ∷ []) (pos x ∷ pos y ∷ pos z ∷ [])
 position-fits x y z hx hy hz = (refl, position-at x y z hx hy hz)
 
-patch-at : (x y z : ℕ) → x < 2 ^ 31 → y < 2 ^ 31 → z < 256 → (j : ℕ) → j < 4 → in_type (get_or (types_of (position_head ∷ label_head ∷ [])) j 0) (get_or (pos x ∷ pos y ∷ pos 0 ∷ pos z ∷ []) j (pos 0)) ≡ true
+patch-at : (x y z : ℕ) → x < 2 ^ 31 → y < 2 ^ 31 → z < 256 → (j : ℕ) → j < 4 → in_bounds (get_or (row_bounds (position_head ∷ label_head ∷ [])) j no_bounds) (get_or (pos x ∷ pos y ∷ pos 0 ∷ pos z ∷ []) j (pos 0)) ≡ true
 patch-at x y z hx hy hz zero below = int32-fits x hx
 patch-at x y z hx hy hz (suc zero) below = int32-fits y hy
 patch-at x y z hx hy hz (suc (suc zero)) below = int32-fits 0 (omega arith)

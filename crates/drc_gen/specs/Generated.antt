@@ -11,11 +11,11 @@ use Rattle.drc_gen.specs.Lattice.{pairs, pair_number, closed_number_of}
 
 -- the head of positions: three int32
 abbrev pub position_head : Head
-position_head = record { usage = 0; dtype = 5; comps = 3; normalized = 0; id = 0; quant = None }
+position_head = record { usage = 0; dtype = 5; comps = 3; normalized = 0; id = 0; quant = None; octa = None }
 
 -- the head of labels: one uint8 of generic use
 abbrev pub label_head : Head
-label_head = record { usage = 4; dtype = 2; comps = 1; normalized = 0; id = 1; quant = None }
+label_head = record { usage = 4; dtype = 2; comps = 1; normalized = 0; id = 1; quant = None; octa = None }
 
 -- the heads of each kind
 abbrev pub generated_heads : GenKind → List Head

@@ -19,6 +19,7 @@ fn positions() -> Head
         normalized: 0,
         id: 0,
         quant: None,
+        octa: None,
     }
 }
 
@@ -33,6 +34,7 @@ fn labels() -> Head
         normalized: 0,
         id: 1,
         quant: None,
+        octa: None,
     }
 }
 

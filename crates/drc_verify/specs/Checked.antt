@@ -16,7 +16,7 @@ use Rattle.corner_table.specs.Table.{Table, gluing_of}
 use Rattle.pairing.specs.Pairing.{pairing}
 use Rattle.pairing.specs.CarriedPairs.{carried}
 use Rattle.pairing.specs.Degenerate.{degenerate_fault}
-use Rattle.ply_mesh.specs.Read.{ply_read}
+use Rattle.ply_mesh.specs.Read.{ply_read_in}
 use Rattle.drc_container.specs.reading.Meaning.{Surface, Meaning}
 use Rattle.drc_container.specs.reading.Stream.{stream_in}
 use Rattle.drc_verify.specs.declared.verdicts.Verdict.{Verdict}
@@ -92,10 +92,10 @@ read_in p surface cloud rows g bytes = stream_in p bytes >>= λ n. verdict_asked
 abbrev pub read_due : Bool → Bool → Rows → Geometry → List ℕ → Result Verdict Fault
 read_due surface cloud rows g bytes = read_in profile surface cloud rows g bytes
 
--- what is due of a text in place of its geometry: the verdict, or the first fault of both
+-- what is due of a text in place of its geometry, which is read in the profile too: the verdict, or the first fault of both
 unfoldable pub verdict_in : Profile → Bool → Bool → Rows → List ℕ → List ℕ → Result Verdict Fault
 verdict_in p surface cloud rows text bytes = do
-  g ← ply_read text
+  g ← ply_read_in p.number text
   read_in p surface cloud rows g bytes
 
 -- the same in the profile of decoding

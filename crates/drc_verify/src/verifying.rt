@@ -6,8 +6,8 @@ ghost use Rattle.drc_base.specs.declared.faults.Refusal.TheVariants as refusal;
 ghost use Rattle.drc_base.specs.Profile.{profile_numbered};
 ghost use Rattle.drc_base.specs.Refusals.{Answers};
 ghost use Rattle.mesh_model.specs.declared.geometries.Geometry.{Geometry as AnyGeometry};
-ghost use Rattle.ply_text.specs.DeclaredLines.{declared_of_text};
-ghost use Rattle.ply_mesh.specs.Read.{ply_read};
+ghost use Rattle.ply_text.specs.DeclaredLines.{declared_of_text_in};
+ghost use Rattle.ply_mesh.specs.Read.{ply_read_in};
 ghost use Rattle.drc_container.specs.reading.Meaning.{Meaning};
 ghost use Rattle.drc_container.specs.reading.Stream.{stream_in, declared_of};
 ghost use Rattle.drc_verify.specs.Checked.{verdict_in, read_in, IsSame};
@@ -85,7 +85,7 @@ pub fn verify_read(
     }
 }
 
-/// Whether `stream` means in this profile the geometry of the PLY text `ply` by the rows of `map`, and with `surface` whether
+/// Whether `stream` means in this profile the geometry that the PLY text `ply` means in it, by the rows of `map`, and with `surface` whether
 /// its glued pairs are besides those of the text's mesh under the new numbers that the rows give to its faces.
 /// Without `surface` the verdict is `Same` exactly where map, text and stream are all of meshes or all of
 /// clouds, and the stream's geometry is the text's by the rows; with it exactly where the pairs are the same
@@ -93,7 +93,7 @@ pub fn verify_read(
 /// the stream's first fault; and with `surface` Choice at 0 where the stream isn't Edgebreaker, NoPosition at
 /// 0 where the text is a cloud or its first attribute is no position, Degenerate at the text's first face with
 /// two corners at one position. A fault of a line of the text before `end_header` and before the first line that
-/// quantises an attribute comes before out of memory.
+/// quantises an attribute, or gives the bits of an octahedral one, comes before out of memory.
 #[tactic(auto, unfolding(crate::specs::Checked::verdict_in))]
 pub fn verify(
     alloc: Global,
@@ -104,10 +104,10 @@ pub fn verify(
     profile: Profile,
 ) -> Result<Verdict, Refusal>
     ensures verdict { Answers (λ v. v) (verdict_in (profile_numbered profile.number) surface map.now.cloud map.now.rows.rows ply.now stream.now) result }
-    ensures early { (f : AnyFault) → declared_of_text ply.now ≡ Err f → result ≡ Err (refusal.Fault f) }
-    ensures same { (g : AnyGeometry) (n : Meaning) → ply_read ply.now ≡ Ok g → stream_in (profile_numbered profile.number) stream.now ≡ Ok n
+    ensures early { (f : AnyFault) → declared_of_text_in profile.number ply.now ≡ Err f → result ≡ Err (refusal.Fault f) }
+    ensures same { (g : AnyGeometry) (n : Meaning) → ply_read_in profile.number ply.now ≡ Ok g → stream_in (profile_numbered profile.number) stream.now ≡ Ok n
         → IfOk result (λ v. (v ≡ verdict.Same) ↔ IsSame surface map.now.cloud map.now.rows.rows g n) }
 {
-    let g = read_ply(alloc, ply)?;
+    let g = read_ply(alloc, profile, ply)?;
     verify_read(alloc, map, &g, stream, surface, profile)
 }

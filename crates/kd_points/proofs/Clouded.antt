@@ -10,8 +10,8 @@ use Rattle.drc_base.specs.declared.limits.TheConstants.{MAX_KD_POINTS, MAX_KD_VA
 use Rattle.drc_base.specs.declared.kinds.Kind.TheVariants as kind
 use Rattle.attr_heads.specs.declared.heads.Head.{Head}
 use Rattle.attr_heads.specs.FirstFault.{at_place, value_unless}
-use Rattle.attr_heads.specs.DataTypes.{in_type}
-use Rattle.attr_heads.specs.Head.{heads_fault, types_of, width_of}
+use Rattle.attr_heads.specs.Bounds.{in_bounds, no_bounds, bounds_of}
+use Rattle.attr_heads.specs.Head.{heads_fault, row_bounds, width_of}
 use Rattle.mesh_model.specs.Parts.{ArePoints, CloudParts, RowFits, cells_of}
 use Rattle.mesh_model.proofs.Places.{position-none, position-at}
 use Rattle.kd_tree.specs.Keys.{Key}
@@ -20,14 +20,14 @@ use Rattle.kd_points.specs.declared.headers.Header.{Header}
 use Rattle.kd_points.specs.Extents.{row_within}
 use Rattle.kd_points.specs.Meaning.{FirstOutside, cloud_of_keys, extent_size, are_points_typed, typed_fault}
 
--- a data type for each integer
-pub length-types_of : (heads : List Head) → length (types_of heads) ≡ width_of heads
-length-types_of [] = refl
-length-types_of (h ∷ heads) =
-    let here = length-append (replicate h.comps h.dtype) (types_of heads) in
-    let long = length-replicate h.comps h.dtype in
+-- bounds for each integer
+pub length-row_bounds : (heads : List Head) → length (row_bounds heads) ≡ width_of heads
+length-row_bounds [] = refl
+length-row_bounds (h ∷ heads) =
+    let here = length-append (replicate h.comps (bounds_of h)) (row_bounds heads) in
+    let long = length-replicate h.comps (bounds_of h) in
     let step = sum_by-cons (λ (g : Head). g.comps) h heads in
-    omega (arith, here, long, step, length-types_of heads)
+    omega (arith, here, long, step, length-row_bounds heads)
 
 pub length-row_within : (extents : List Extent) (key : Key) → length (row_within extents key) ≡ length extents
 unfolding row_within
@@ -35,21 +35,21 @@ length-row_within extents key = length-map-range_with_len _ 0 (length extents)
 
 -- a component whose integers are all in its data type, and one with another
 typed-is : (heads : List Head) (points : List (List ℤ)) (j : ℕ)
-    → ((i : ℕ) → i < length points → in_type (get_or (types_of heads) j 0) (get_or (get_or points i []) j (pos 0)) ≡ true) → are_points_typed heads points j ≡ true
+    → ((i : ℕ) → i < length points → in_bounds (get_or (row_bounds heads) j no_bounds) (get_or (get_or points i []) j (pos 0)) ≡ true) → are_points_typed heads points j ≡ true
 typed-is heads points j each =
-    list_all-from_AllPass (λ (row : List ℤ). in_type (get_or (types_of heads) j 0) (get_or row j (pos 0))) points
-    (λ i d inside. ap (λ (row : List ℤ). in_type (get_or (types_of heads) j 0) (get_or row j (pos 0))) (get_or_default points i d [] inside) ∙ each i inside)
+    list_all-from_AllPass (λ (row : List ℤ). in_bounds (get_or (row_bounds heads) j no_bounds) (get_or row j (pos 0))) points
+    (λ i d inside. ap (λ (row : List ℤ). in_bounds (get_or (row_bounds heads) j no_bounds) (get_or row j (pos 0))) (get_or_default points i d [] inside) ∙ each i inside)
 
 untyped-is : (heads : List Head) (points : List (List ℤ)) (j i : ℕ) → i < length points
-    → in_type (get_or (types_of heads) j 0) (get_or (get_or points i []) j (pos 0)) ≡ false → are_points_typed heads points j ≡ false
-untyped-is heads points j i inside fails = list_all_at (λ (row : List ℤ). in_type (get_or (types_of heads) j 0) (get_or row j (pos 0))) points i [] inside fails
+    → in_bounds (get_or (row_bounds heads) j no_bounds) (get_or (get_or points i []) j (pos 0)) ≡ false → are_points_typed heads points j ≡ false
+untyped-is heads points j i inside fails = list_all_at (λ (row : List ℤ). in_bounds (get_or (row_bounds heads) j no_bounds) (get_or row j (pos 0))) points i [] inside fails
 
 -- the place of a component's extent, where there is one
 abbrev place_of : ℕ → Option ℕ → Option ℕ
 place_of at component = option_map (λ component. at + extent_size * component) component
 
 -- no component has an integer outside its data type
-pub typed_none : (heads : List Head) (at : ℕ) (points : List (List ℤ)) (r : ℕ) → FirstOutside (types_of heads) points r → r ≡ width_of heads → typed_fault heads at points ≡ None
+pub typed_none : (heads : List Head) (at : ℕ) (points : List (List ℤ)) (r : ℕ) → FirstOutside (row_bounds heads) points r → r ≡ width_of heads → typed_fault heads at points ≡ None
 unfolding typed_fault
 typed_none heads at points r first all =
     let w = width_of heads in
@@ -61,14 +61,14 @@ typed_none heads at points r first all =
     ap (λ p. at_place kind.ValueRange (place_of at p)) none
 
 -- component r is the first
-pub typed_at : (heads : List Head) (at : ℕ) (points : List (List ℤ)) (r : ℕ) → FirstOutside (types_of heads) points r → r < width_of heads
+pub typed_at : (heads : List Head) (at : ℕ) (points : List (List ℤ)) (r : ℕ) → FirstOutside (row_bounds heads) points r → r < width_of heads
     → typed_fault heads at points ≡ Some (record { kind = kind.ValueRange; at = at + 5 * r })
 unfolding typed_fault
 typed_at heads at points r first some =
     let w = width_of heads in
     let test : ℕ → Bool = λ component. not (are_points_typed heads points component) in
     let long = length-range_with_len 0 w in
-    let found = first.here (omega (arith, some, length-types_of heads)) in
+    let found = first.here (omega (arith, some, length-row_bounds heads)) in
     let is : position test (range_with_len 0 w) ≡ Some r = position-at test (range_with_len 0 w) r 0 (omega (arith, some, long))
     (λ k below.
     let low : k < w = omega (arith, below, some) in
@@ -81,7 +81,7 @@ typed_at heads at points r first some =
 -- the points of keys within extents, where none is outside, fit their heads
 pub fit_points : (heads : List Head) (extents : List Extent) (keys : List Key) (r : ℕ) → heads_fault heads ≡ None → length extents ≡ width_of heads
     → length keys ≤ MAX_KD_POINTS → length keys * width_of heads ≤ MAX_KD_VALUES
-    → FirstOutside (types_of heads) (map (row_within extents) keys) r → r ≡ width_of heads → ArePoints heads (map (row_within extents) keys)
+    → FirstOutside (row_bounds heads) (map (row_within extents) keys) r → r ≡ width_of heads → ArePoints heads (map (row_within extents) keys)
 fit_points heads extents keys r pass wide few values first all =
     let points : List (List ℤ) = map (row_within extents) keys in
     let many : length points ≡ length keys = length-map keys (row_within extents) in
@@ -99,7 +99,7 @@ fit_points heads extents keys r pass wide few values first all =
     }
 
 -- the cloud, and the fault
-pub cloud_inside : (h : Header) (keys : List Key) (r : ℕ) → FirstOutside (types_of h.heads) (map (row_within h.extents) keys) r → r ≡ width_of h.heads
+pub cloud_inside : (h : Header) (keys : List Key) (r : ℕ) → FirstOutside (row_bounds h.heads) (map (row_within h.extents) keys) r → r ≡ width_of h.heads
     → cloud_of_keys h keys ≡ Ok (record { heads = h.heads; points = map (row_within h.extents) keys })
 unfolding cloud_of_keys
 cloud_inside h keys r first all =
@@ -107,7 +107,7 @@ cloud_inside h keys r first all =
     let whole : CloudParts = record { heads = h.heads; points = points } in
     ap (λ fault. value_unless fault whole) (typed_none h.heads h.at points r first all)
 
-pub cloud_outside : (h : Header) (keys : List Key) (r : ℕ) → FirstOutside (types_of h.heads) (map (row_within h.extents) keys) r → r < width_of h.heads
+pub cloud_outside : (h : Header) (keys : List Key) (r : ℕ) → FirstOutside (row_bounds h.heads) (map (row_within h.extents) keys) r → r < width_of h.heads
     → cloud_of_keys h keys ≡ Err (record { kind = kind.ValueRange; at = h.at + 5 * r })
 unfolding cloud_of_keys
 cloud_outside h keys r first some =
@@ -117,19 +117,19 @@ cloud_outside h keys r first some =
 
 -- integers of points that keys give, none of which is outside its data type
 pub record AreFit (heads : List Head) (extents : List Extent) (keys : List Key) (cells : List ℤ) (r : ℕ) : Type 0 where
-  pub first : FirstOutside (types_of heads) (map (row_within extents) keys) r
+  pub first : FirstOutside (row_bounds heads) (map (row_within extents) keys) r
   pub all : r ≡ width_of heads
   pub are : ArePoints heads (map (row_within extents) keys)
   pub cells_are : cells ≡ cells_of (map (row_within extents) keys)
 
 pub fit_cells : (heads seen_heads : List Head) (extents seen : List Extent) (keys : List Key) (cells : List ℤ) (r : ℕ) → seen_heads ≡ heads → seen ≡ extents
     → heads_fault heads ≡ None → length extents ≡ width_of heads → length keys ≤ MAX_KD_POINTS → length keys * width_of heads ≤ MAX_KD_VALUES
-    → FirstOutside (types_of seen_heads) (map (row_within seen) keys) r → (r ≡ width_of seen_heads → cells ≡ cells_of (map (row_within seen) keys))
+    → FirstOutside (row_bounds seen_heads) (map (row_within seen) keys) r → (r ≡ width_of seen_heads → cells ≡ cells_of (map (row_within seen) keys))
     → width_of heads ≤ r → AreFit heads extents keys cells r
 fit_cells heads seen_heads extents seen keys cells r same_heads same pass wide few values first put most =
-    let first' : FirstOutside (types_of heads) (map (row_within extents) keys) r =
-    subst (λ e. FirstOutside (types_of heads) (map (row_within e) keys) r) same (subst (λ h. FirstOutside (types_of h) (map (row_within seen) keys) r) same_heads first) in
-    let all : r ≡ width_of heads = omega (arith, most, first'.within, length-types_of heads) in
+    let first' : FirstOutside (row_bounds heads) (map (row_within extents) keys) r =
+    subst (λ e. FirstOutside (row_bounds heads) (map (row_within e) keys) r) same (subst (λ h. FirstOutside (row_bounds h) (map (row_within seen) keys) r) same_heads first) in
+    let all : r ≡ width_of heads = omega (arith, most, first'.within, length-row_bounds heads) in
     record {
       first = first';
       all = all;

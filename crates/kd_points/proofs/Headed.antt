@@ -1,9 +1,8 @@
 -- Heads that were read have no fault.
-use Rattle.std.proofs.Common.{◌≡◌, ℕ, ◌+◌, ◌≤◌, Bool, true, false, List, [], ◌∷◌, length, Option, None, Some, Ok, refl, sym, ◌∙◌, ap, subst, arith}
-use Rattle.std.specs.Prelude.{◌==◌, ◌&&◌, ◌||◌, nat_lt, nat_le}
+use Rattle.std.proofs.Common.{◌≡◌, ℕ, ◌+◌, ◌≤◌, IsTrue, Bool, true, List, [], ◌∷◌, length, Option, None, Some, Ok, refl, subst, arith}
+use Rattle.std.specs.Prelude.{◌&&◌, nat_lt, nat_le}
 use Rattle.std.specs.List.{All}
 use Rattle.std.proofs.lemmas.Bool.{leb-true, ltb-true, le-leb, eq-eqb, and_from}
-use Rattle.std.proofs.Math.Bool.{or-false}
 use Rattle.std.proofs.lemmas.List.Elements.{All-head, All-tail}
 use Rattle.drc_base.specs.declared.kinds.Kind.TheVariants as kind
 use Rattle.drc_base.specs.declared.limits.TheConstants.{MAX_ATTRIBUTES, MAX_COMPONENTS}
@@ -17,6 +16,7 @@ use Rattle.drc_bits.proofs.Parted.{must-passed, many-passed}
 use Rattle.attr_heads.specs.declared.heads.Head.{Head}
 use Rattle.attr_heads.specs.declared.quants.Quant.{Quant}
 use Rattle.attr_heads.specs.Quants.{has_minima, has_bits}
+use Rattle.attr_heads.specs.Octahedra.{has_square_bits}
 use Rattle.attr_heads.specs.Head.{has_type, head_fault, each_fault, heads_fault}
 use Rattle.attr_heads.proofs.FirstFaults.{unless-true, first_fault-cons}
 use Rattle.attr_heads.proofs.Passing.{heads_say}
@@ -30,7 +30,7 @@ use Rattle.kd_points.specs.Header.{kd_quant_at, kd_quant_of_at, kd_head_at, kd_h
 
 -- a quantisation that fits a type and so many components
 record QuantFits (dtype comps : ℕ) (q : Option Quant) : Type 0 where
-  type_fits : has_type dtype q ≡ true
+  type_fits : has_type dtype q None ≡ true
   minima : has_minima comps q ≡ true
   bits : has_bits q ≡ true
 
@@ -66,12 +66,13 @@ head-passed c y is =
     let says = head_passed c p.0 p.1 in
     let fits = quant-passed p.0.0.dtype p.0.0.comps says.dtype p.0.1 q.0 q.1 in
     let comps = and_from (nat_le 1 p.0.0.comps) (nat_le p.0.0.comps MAX_COMPONENTS) (le-leb 1 p.0.0.comps says.some) (le-leb p.0.0.comps MAX_COMPONENTS says.few) in
-    let all = and_from (has_comps p.0.0.comps) (has_minima p.0.0.comps q.0.0) comps fits.minima in
-    given (λ (z : Head × Reading). IsHead z.0) (record p.0.0 { quant = q.0.0 }, q.0.1) y q.2 (λ k.
+    let all = and_from (has_comps p.0.0.comps) (has_minima p.0.0.comps q.0.0 && true) comps (and_from (has_minima p.0.0.comps q.0.0) true fits.minima refl) in
+    let bits = and_from (has_bits q.0.0) true fits.bits refl in
+    given (λ (z : Head × Reading). IsHead z.0) (record p.0.0 { quant = q.0.0; octa = None }, q.0.1) y q.2 (λ k.
     first_fault-cons _ _ (unless-true _ kind.AttrType k (le-leb p.0.0.usage 4 says.usage))
     (first_fault-cons _ _ (unless-true _ kind.DataType k fits.type_fits)
     (first_fault-cons _ _ (unless-true _ kind.Components k all)
-    (first_fault-cons _ [] (unless-true _ kind.QuantBits k fits.bits) refl))))
+    (first_fault-cons _ [] (unless-true _ kind.QuantBits k bits) refl))))
 
 each-none : (k : ℕ) (heads : List Head) → All IsHead heads → each_fault k heads ≡ None
 each-none k [] are = refl
@@ -100,3 +101,7 @@ heads_few heads pass = (heads_say heads pass).few
 -- a head of heads that pass has at most eight components
 pub comps_few : (heads : List Head) → heads_fault heads ≡ None → All (λ h. h.comps ≤ 8) heads
 comps_few heads pass = λ k d inside. ((heads_say heads pass).each k d inside).few
+
+-- where heads that pass have a square, its coordinates have as many bits as they may
+pub squares_pass : (heads : List Head) → heads_fault heads ≡ None → All (λ h. IsTrue (has_square_bits h.octa)) heads
+squares_pass heads pass = λ k d inside. ((heads_say heads pass).each k d inside).square

@@ -21,3 +21,4 @@ pub mod Ranks
 pub mod OneOrder
 pub mod WrittenMeans
 pub mod Examples
+pub mod ProfileHeads

@@ -1,6 +1,6 @@
 -- A written file is read again: its header, its two blocks, and its points.
-use Rattle.std.proofs.Common.{◌≡◌, ℕ, ◌+◌, ◌*◌, ◌<◌, ◌≤◌, Bool, not, List, [], ◌∷◌, ◌++◌, length, flat_map, None, Ok, refl, sym, ◌∙◌, ap, subst, arith, append_assoc}
-use Rattle.std.specs.Prelude.{◌==◌, nat_le, nat_lt, nat_eq}
+use Rattle.std.proofs.Common.{◌≡◌, ℕ, ◌+◌, ◌*◌, ◌<◌, ◌≤◌, Bool, false, not, get_or, is_some, Option, List, [], ◌∷◌, ◌++◌, length, flat_map, None, Some, Ok, refl, sym, ◌∙◌, ap, subst, arith, append_assoc}
+use Rattle.std.specs.Prelude.{◌==◌, nat_le, nat_lt, nat_eq, position}
 use Rattle.std.specs.Cmp.Lexicographic.{pointwise}
 use Rattle.std.specs.List.{All}
 use Rattle.std.proofs.lemmas.Bool.{le-leb, lt-ltb, leb-true, ltb-true}
@@ -21,7 +21,8 @@ use Rattle.attr_heads.specs.FirstFault.{unless}
 use Rattle.attr_heads.specs.Head.{width_of}
 use Rattle.mesh_model.specs.Parts.{CloudParts, IsCloud}
 use Rattle.mesh_model.specs.Same.{Rows}
-use Rattle.attr_heads.proofs.FirstFaults.{first_fault-none, unless-none}
+use Rattle.attr_heads.proofs.FirstFaults.{first_fault-none, unless-none, at_place-none}
+use Rattle.mesh_model.proofs.Places.{position-none_back}
 use Rattle.attr_heads.proofs.Passing.{HeadsSay, heads_say}
 use Rattle.kd_tree.specs.Laws.{TreesAreReadAgain}
 use Rattle.kd_tree.specs.Order.{IsKdOrder}
@@ -36,7 +37,7 @@ use Rattle.kd_points.specs.Extents.{depth_of, extents_of, key_within, keys_of}
 use Rattle.kd_points.specs.Header.{kd_attribute_count_at, extent_at, kd_head_at, kd_header_at, kd_heads_at, kd_magic, kd_opening_at, point_count_at, version}
 use Rattle.kd_points.specs.Laws.{KdHeadFits, IsFileOf}
 use Rattle.kd_points.specs.Meaning.{file_at, kd_meaning, tree_at}
-use Rattle.kd_points.specs.Written.{KdOrder, extent_bytes, kd_head_bytes, kd_header_bytes, kd_fault, kd_written, rest_of, kd_split_of}
+use Rattle.kd_points.specs.Written.{KdOrder, extent_bytes, kd_head_bytes, kd_header_bytes, square_fault, kd_fault, kd_written, rest_of, kd_split_of}
 use Rattle.kd_points.proofs.Blocked.{bits_few, few-again}
 use Rattle.kd_points.proofs.Clouded.{cloud_inside}
 use Rattle.kd_points.proofs.Counting.{keys_long}
@@ -61,13 +62,13 @@ Spells-count n some few =
     Spells-must kind.AttrLimit (λ n. nat_le n MAX_ATTRIBUTES) (must kind.NoAttribute (λ n. nat_lt 0 n) var32_at) (spelling 5 n) n (le-leb n MAX_ATTRIBUTES few)
     (Spells-must kind.NoAttribute (λ n. nat_lt 0 n) var32_at (spelling 5 n) n (lt-ltb 0 n (omega (arith, some))) (Spells-var32 n (omega (arith, few))))
 
-Spells-heads : (heads : List Head) → HeadsSay heads → All KdHeadFits heads → Spells kd_heads_at (spelling 5 (length heads) ++ flat_map kd_head_bytes heads) heads
+Spells-heads : (heads : List Head) → All (λ h. h.octa ≡ None) heads → HeadsSay heads → All KdHeadFits heads → Spells kd_heads_at (spelling 5 (length heads) ++ flat_map kd_head_bytes heads) heads
 unfolding kd_heads_at
-Spells-heads heads says fit =
+Spells-heads heads unsquared says fit =
     Spells-then kd_attribute_count_at (λ n c. many_at kd_head_at n c) (spelling 5 (length heads)) (flat_map kd_head_bytes heads) (length heads) heads
     (Spells-count (length heads) says.some says.few)
     (subst (λ l. Spells (many_at kd_head_at (length heads)) (flat_map kd_head_bytes heads) l) (map-id heads)
-    (Spells-all kd_head_at kd_head_bytes (λ h. h) heads (λ k d inside. Spells-head _ (says.each k d inside) (fit k d inside))))
+    (Spells-all kd_head_at kd_head_bytes (λ h. h) heads (λ k d inside. Spells-head _ (unsquared k d inside) (says.each k d inside) (fit k d inside))))
 
 -- the number of points
 Spells-points : (n width : ℕ) → 0 < n → n ≤ MAX_KD_POINTS → n * width ≤ MAX_KD_VALUES → Spells (point_count_at width) (spelling 5 n) n
@@ -80,9 +81,17 @@ Spells-points n width some few values =
 
 -- what a cloud that is written has
 record HasLimits (c : CloudParts) : Type 0 where
+  unsquared : All (λ h. h.octa ≡ None) c.heads
   some : 0 < length c.points
   few : length c.points ≤ MAX_KD_POINTS
   values : length c.points * width_of c.heads ≤ MAX_KD_VALUES
+
+no_squares : (heads : List Head) → position (λ h. is_some h.octa) heads ≡ None → All (λ h. h.octa ≡ None) heads
+no_squares heads none = λ k d inside. none_is (get_or heads k d).octa (position-none_back (λ (h : Head). is_some h.octa) heads none k d inside)
+  where
+    none_is : (o : Option ℕ) → is_some o ≡ false → o ≡ None
+    none_is None e = refl
+    none_is (Some bits) e = cc
 
 limits : (c : CloudParts) → kd_fault (Cloud c) ≡ None → HasLimits c
 unfolding kd_fault
@@ -90,14 +99,17 @@ limits c none =
     let n = length c.points in
     let values = n * width_of c.heads in
     let t1 = unless (not (is_mesh (Cloud c))) kind.KdMesh 0 in
+    let t0 = square_fault (Cloud c) in
     let t2 = unless (nat_lt 0 n) kind.Empty 0 in
     let t3 = unless (nat_le n MAX_KD_POINTS) kind.PointLimit n in
     let t4 = unless (nat_le values MAX_KD_VALUES) kind.KdLimit values in
-    let a = first_fault-none t1 (t2 ∷ t3 ∷ t4 ∷ []) none in
+    let m = first_fault-none t1 (t0 ∷ t2 ∷ t3 ∷ t4 ∷ []) none in
+    let a = first_fault-none t0 (t2 ∷ t3 ∷ t4 ∷ []) m.1 in
     let b = first_fault-none t2 (t3 ∷ t4 ∷ []) a.1 in
     let d = first_fault-none t3 (t4 ∷ []) b.1 in
     let e = first_fault-none t4 [] d.1 in
     record {
+      unsquared = no_squares c.heads (at_place-none kind.Octahedral _ a.0);
       some = ltb-true 0 n (unless-none (nat_lt 0 n) kind.Empty 0 b.0);
       few = leb-true n MAX_KD_POINTS (unless-none (nat_le n MAX_KD_POINTS) kind.PointLimit n d.0);
       values = leb-true values MAX_KD_VALUES (unless-none (nat_le values MAX_KD_VALUES) kind.KdLimit values e.0);
@@ -138,7 +150,7 @@ header_read c rest cloud has fit =
     let whole : (kd_magic ++ version ∷ spelling 5 (length c.heads) ++ (flat_map kd_head_bytes c.heads ++ (spelling 5 n ++ extents))) ++ rest
     ≡ opening ++ (heads ++ (count ++ (extents ++ rest))) = ap (λ bytes. opening ++ bytes) (regroup (spelling 5 (length c.heads)) (flat_map kd_head_bytes c.heads) count extents rest) in
     let first = Spells-opening.reads 0 (heads ++ (count ++ (extents ++ rest))) in
-    let second = (Spells-heads c.heads (heads_say c.heads cloud.heads_pass) fit).reads one (count ++ (extents ++ rest)) in
+    let second = (Spells-heads c.heads has.unsquared (heads_say c.heads cloud.heads_pass) fit).reads one (count ++ (extents ++ rest)) in
     let third = (Spells-points n (width_of c.heads) has.some has.few has.values).reads two (extents ++ rest) in
     let fourth = (Spells-extents c cloud has).reads three rest in
     record { at = three; end = three + length extents; reads = ap (λ bytes. kd_header_at (start_of bytes)) whole ∙ rw (first, second, third, fourth) refl }

@@ -4,8 +4,8 @@ use Rattle.std.specs.Prelude.{◌==◌}
 use Rattle.std.specs.List.{range_with_len}
 use Rattle.std.proofs.lemmas.List.{length-map, get_or-map}
 use Rattle.std.proofs.lemmas.List.Sorted.{sum_by-IsPermutation}
-use Rattle.attr_heads.specs.DataTypes.{in_type}
-use Rattle.attr_heads.specs.Head.{types_of, width_of}
+use Rattle.attr_heads.specs.Bounds.{in_bounds, no_bounds}
+use Rattle.attr_heads.specs.Head.{row_bounds, width_of}
 use Rattle.mesh_model.specs.Parts.{CloudParts, IsCloud}
 use Rattle.mesh_model.specs.Same.{NamesEachOnce, Rows, SameCloud}
 use Rattle.mesh_model.proofs.Counts.{count-map, count-range}
@@ -14,7 +14,7 @@ use Rattle.kd_tree.specs.Order.{IsKdOrder, point_cmp}
 use Rattle.kd_tree.proofs.Orders.{order-below}
 use Rattle.kd_points.specs.Extents.{extents_of, key_within, keys_of, row_within}
 use Rattle.kd_points.specs.Meaning.{FirstOutside}
-use Rattle.kd_points.proofs.Clouded.{length-types_of}
+use Rattle.kd_points.proofs.Clouded.{length-row_bounds}
 use Rattle.kd_points.proofs.Counting.{sorted_length}
 use Rattle.kd_points.proofs.RowsBack.{row_back}
 
@@ -47,14 +47,14 @@ point_back c order cloud is i inside =
     row ∙ ap (row_within extents) (key ∙ own) ∙ row_back c p cloud below
 
 -- none of its integers is outside its data type
-pub all_inside : (c : CloudParts) (order : List ℕ) → IsCloud c → IsKdOrder (keys_of c) order → FirstOutside (types_of c.heads) (sorted_points c order) (width_of c.heads)
+pub all_inside : (c : CloudParts) (order : List ℕ) → IsCloud c → IsKdOrder (keys_of c) order → FirstOutside (row_bounds c.heads) (sorted_points c order) (width_of c.heads)
 all_inside c order cloud is = record {
-  within = omega (arith, length-types_of c.heads);
+  within = omega (arith, length-row_bounds c.heads);
   before = λ i j inside narrow.
       let low : i < length order = omega (arith, inside, length-map (sorted_keys c order) (row_within (extents_of c)), length-map order (key_at (keys_of c))) in
       let fits = (cloud.rows_fit (get_or order i 0) [] (below_count c order is i low)).1 j narrow in
-      subst (λ (row : List ℤ). in_type (get_or (types_of c.heads) j 0) (get_or row j (pos 0)) ≡ true) (sym (point_back c order cloud is i low)) fits;
-  here = λ below. absurd (omega (arith, below, length-types_of c.heads));
+      subst (λ (row : List ℤ). in_bounds (get_or (row_bounds c.heads) j no_bounds) (get_or row j (pos 0)) ≡ true) (sym (point_back c order cloud is i low)) fits;
+  here = λ below. absurd (omega (arith, below, length-row_bounds c.heads));
 }
 
 -- the rows of an order

@@ -1,24 +1,29 @@
 -- Points from their keys are the points.
-use Rattle.std.proofs.Common.{◌≡◌, ℕ, ◌*◌, ◌%◌, ◌^◌, ◌<◌, ◌≤◌, ℤ, pos, negsuc, ◌≤ℤ◌, ◌+ℤ◌, ◌-ℤ◌, List, [], length, get_or, map, sum, refl, sym, ◌∙◌, ap, subst, arith, zero-add, FitsSigned}
+use Rattle.std.proofs.Common.{◌≡◌, ℕ, ◌*◌, ◌%◌, ◌^◌, ◌<◌, ◌≤◌, ℤ, pos, negsuc, ◌≤ℤ◌, ◌+ℤ◌, ◌-ℤ◌, List, [], length, get_or, map, sum, refl, sym, ◌∙◌, ap, subst, arith, zero-add, FitsSigned, IsTrue, Option, None, Some, replicate, pow_mono}
 use lib.Dec.{T}
-use Rattle.std.specs.Prelude.{int_le, ◌==◌, if◌then◌else◌, Bool, true, false, ◌∷◌}
+use Rattle.std.specs.Prelude.{int_le, nat_le, Bool, true, ◌∷◌}
 use Rattle.std.specs.Int.{w32, int_min, int_max}
 use Rattle.std.specs.List.{fold}
 use Rattle.std.specs.List.{All, range_with_len}
-use Rattle.std.proofs.lemmas.Bool.{and_parts}
+use Rattle.std.proofs.lemmas.Bool.{and_parts, leb-true}
 use Rattle.std.proofs.lemmas.Int.{ints, clamps, fold-int_min_bounds}
-use Rattle.std.proofs.lemmas.List.Elements.{All-head, All-tail}
+use Rattle.std.proofs.lemmas.List.Elements.{All-nil, All-append, All-replicate, All-head, All-tail}
 use Rattle.std.proofs.Math.Nat.{mod-eq_of_lt}
 use Rattle.std.proofs.lemmas.List.{length-map, get_or-map, get_or_default, same_lists}
 use Rattle.std.proofs.lemmas.List.FromFn.{length-map-range_with_len, get_or-map-range_with_len}
-use Rattle.attr_heads.specs.DataTypes.{greatest_of, in_type, least_of}
-use Rattle.attr_heads.specs.Head.{types_of, width_of}
+use Rattle.attr_heads.specs.declared.heads.Head.{Head}
+use Rattle.attr_heads.specs.declared.bounds.Bounds.{Bounds}
+use Rattle.attr_heads.specs.Bounds.{in_bounds, no_bounds, bounds_of, bounds_under}
+use Rattle.attr_heads.specs.Octahedra.{has_square_bits}
+use Rattle.attr_heads.specs.Head.{row_bounds, width_of}
 use Rattle.attr_heads.proofs.Types.{least_low, greatest_high}
 use Rattle.mesh_model.specs.Parts.{CloudParts, IsCloud}
 use Rattle.kd_points.specs.declared.extents.Extent.{Extent}
 use Rattle.kd_points.specs.Extents.{above, axes_over, column_of, depth_of, extent_of, extents_of, greatest_in, key_within, least_in, no_extent, offset_of, row_within}
 use Rattle.kd_points.specs.Keys.{offset_in}
 use Rattle.drc_bits.specs.Digits.{digits}
+use Rattle.kd_points.proofs.Clouded.{length-row_bounds}
+use Rattle.kd_points.proofs.Headed.{squares_pass}
 use Rattle.kd_points.proofs.Axed.{offset_back}
 use Rattle.drc_bits.proofs.Digits.{digits-above, digits-most}
 use Rattle.kd_points.proofs.Extended.{greatest-least, least-most}
@@ -31,15 +36,36 @@ holds b e = subst T (sym e) tt
 IsSmall : ℤ → Type 0
 IsSmall v = (negsuc 2147483647 ≤ℤ v) × (v ≤ℤ pos 2147483647)
 
-small : (dtype : ℕ) (v : ℤ) → in_type dtype v ≡ true → IsSmall v
-unfolding in_type IsSmall
-small dtype v is =
-    let p = and_parts (int_le (least_of dtype) v) (int_le v (greatest_of dtype)) is in
-    let low : least_of dtype ≤ℤ v = record { le = holds (int_le (least_of dtype) v) p.0 } in
-    let high : v ≤ℤ greatest_of dtype = record { le = holds (int_le v (greatest_of dtype)) p.1 } in
-    let least = least_low dtype in
-    let most = greatest_high dtype in
-    (omega (arith, ints, low, least), omega (arith, ints, high, most))
+-- bounds of 32 bits
+record IsNarrow (b : Bounds) : Type 0 where
+  least : negsuc 2147483647 ≤ℤ b.least
+  greatest : b.greatest ≤ℤ pos 2147483647
+
+small : (b : Bounds) (v : ℤ) → IsNarrow b → in_bounds b v ≡ true → IsSmall v
+unfolding in_bounds IsSmall
+small b v narrow is =
+    let p = and_parts (int_le b.least v) (int_le v b.greatest) is in
+    let low : b.least ≤ℤ v = record { le = holds (int_le b.least v) p.0 } in
+    let high : v ≤ℤ b.greatest = record { le = holds (int_le v b.greatest) p.1 } in
+    (omega (arith, ints, low, narrow.least), omega (arith, ints, high, narrow.greatest))
+
+-- the bounds of heads that pass are narrow
+head_narrow : (h : Head) → IsTrue (has_square_bits h.octa) → IsNarrow (bounds_of h)
+head_narrow h square = by_square h.dtype h.octa square where
+  by_square : (dtype : ℕ) (octa : Option ℕ) → IsTrue (has_square_bits octa) → IsNarrow (bounds_under dtype octa)
+  by_square dtype None square = record { least = least_low dtype; greatest = greatest_high dtype }
+  by_square dtype (Some bits) square =
+      let q = and_parts (nat_le 2 bits) (nat_le bits 30) square in
+      let few : bits ≤ 30 = leb-true bits 30 q.1 in
+      let most : 2 ^ bits ≤ 2 ^ 30 = pow_mono {i = bits} {j = 30} few in
+      record { least = omega (arith, ints); greatest = omega (arith, ints, most) }
+
+row_narrow : (heads : List Head) → All (λ h. IsTrue (has_square_bits h.octa)) heads → All IsNarrow (row_bounds heads)
+row_narrow [] squares = All-nil IsNarrow
+row_narrow (h ∷ heads) squares =
+    All-append IsNarrow (replicate h.comps (bounds_of h)) (row_bounds heads)
+    (All-replicate IsNarrow h.comps (bounds_of h) (head_narrow h (All-head (λ (g : Head). IsTrue (has_square_bits g.octa)) h heads squares)))
+    (row_narrow heads (All-tail (λ (g : Head). IsTrue (has_square_bits g.octa)) h heads squares))
 
 -- the least and the greatest of small integers are small
 fold-least : (a : ℤ) (xs : List ℤ) → negsuc 2147483647 ≤ℤ a → All IsSmall xs → negsuc 2147483647 ≤ℤ fold int_min a xs
@@ -80,7 +106,9 @@ column_small : (c : CloudParts) (j : ℕ) → IsCloud c → j < width_of c.heads
 column_small c j is narrow = λ k d inside.
     let low : k < length c.points = omega (arith, inside, length-map c.points (λ (row : List ℤ). get_or row j (pos 0))) in
     subst IsSmall (sym (get_or-map (λ (row : List ℤ). get_or row j (pos 0)) c.points k [] d low))
-    (small (get_or (types_of c.heads) j 0) (get_or (get_or c.points k []) j (pos 0)) ((is.rows_fit k [] low).1 j narrow))
+    (small (get_or (row_bounds c.heads) j no_bounds) (get_or (get_or c.points k []) j (pos 0))
+    (row_narrow c.heads (squares_pass c.heads is.heads_pass) j no_bounds (omega (arith, narrow, length-row_bounds c.heads)))
+    ((is.rows_fit k [] low).1 j narrow))
 
 -- the extent of a component fits its fields
 fits_signed : (z : ℤ) → IsSmall z → FitsSigned w32 z

@@ -4,7 +4,8 @@ use Rattle.std.specs.List.{range_with_len}
 use Rattle.std.proofs.lemmas.Bool.{cases_lt, cases_Bool}
 use Rattle.std.proofs.lemmas.List.{take_all, get_or_default}
 use Rattle.std.proofs.lemmas.List.FromFn.{map-range_with_len_more, length-map-range_with_len, get_or-map-range_with_len, fill_by_all}
-use Rattle.attr_heads.specs.DataTypes.{in_type}
+use Rattle.attr_heads.specs.declared.bounds.Bounds.{Bounds}
+use Rattle.attr_heads.specs.Bounds.{in_bounds, no_bounds}
 use Rattle.mesh_model.specs.Parts.{cells_of}
 use Rattle.kd_tree.specs.Keys.{Key}
 use Rattle.kd_points.specs.declared.extents.Extent.{Extent}
@@ -14,27 +15,27 @@ use Rattle.kd_points.specs.Meaning.{FirstOutside}
 use Rattle.kd_points.proofs.Appending.{appended-more}
 
 -- the first components of a point were looked at, where before it `before` was the first outside
-pub record IsScan (types : List ℕ) (value : ℕ → ℤ) (before : ℕ) (old cells : List ℤ) (component outside : ℕ) : Type 0 where
+pub record IsScan (bounds : List Bounds) (value : ℕ → ℤ) (before : ℕ) (old cells : List ℤ) (component outside : ℕ) : Type 0 where
   pub kept : outside ≤ before
-  pub typed : (j : ℕ) → j < component → j < outside → in_type (get_or types j 0) (value j) ≡ true
-  pub untyped : outside < before → (outside < component) × (in_type (get_or types outside 0) (value outside) ≡ false)
-  pub cells_are : outside ≡ length types → cells ≡ old ++ map value (range_with_len 0 component)
+  pub typed : (j : ℕ) → j < component → j < outside → in_bounds (get_or bounds j no_bounds) (value j) ≡ true
+  pub untyped : outside < before → (outside < component) × (in_bounds (get_or bounds outside no_bounds) (value outside) ≡ false)
+  pub cells_are : outside ≡ length bounds → cells ≡ old ++ map value (range_with_len 0 component)
 
 -- one component more
-pub scan-next : (types : List ℕ) (value : ℕ → ℤ) (before : ℕ) (old cells new : List ℤ) (component outside next : ℕ) → component < length types
-    → IsScan types value before old cells component outside
-    → (in_type (get_or types component 0) (value component) ≡ true → (next ≡ outside) × (new ≡ cells ++ value component ∷ []))
-    → (in_type (get_or types component 0) (value component) ≡ false → next ≡ min outside component)
-    → IsScan types value before old new (component + 1) next
-scan-next types value before old cells new component outside next inside s here past_it =
-    elim (cases_Bool (in_type (get_or types component 0) (value component))) [
+pub scan-next : (bounds : List Bounds) (value : ℕ → ℤ) (before : ℕ) (old cells new : List ℤ) (component outside next : ℕ) → component < length bounds
+    → IsScan bounds value before old cells component outside
+    → (in_bounds (get_or bounds component no_bounds) (value component) ≡ true → (next ≡ outside) × (new ≡ cells ++ value component ∷ []))
+    → (in_bounds (get_or bounds component no_bounds) (value component) ≡ false → next ≡ min outside component)
+    → IsScan bounds value before old new (component + 1) next
+scan-next bounds value before old cells new component outside next inside s here past_it =
+    elim (cases_Bool (in_bounds (get_or bounds component no_bounds) (value component))) [
       | inl is ↦
           let e = here is in
-          subst (λ n. IsScan types value before old new (component + 1) n) (sym e.0) (record {
+          subst (λ n. IsScan bounds value before old new (component + 1) n) (sym e.0) (record {
             kept = s.kept;
             typed = λ j low less. elim (cases_lt j component) [
               | inl b ↦ s.typed j b less
-              | inr past ↦ (let at : component ≡ j = omega arith in subst (λ k. in_type (get_or types k 0) (value k) ≡ true) at is)
+              | inr past ↦ (let at : component ≡ j = omega arith in subst (λ k. in_bounds (get_or bounds k no_bounds) (value k) ≡ true) at is)
             ];
             untyped = λ less. (omega (arith, (s.untyped less).0), (s.untyped less).1);
             cells_are = λ all.
@@ -45,7 +46,7 @@ scan-next types value before old cells new component outside next inside s here 
       | inr fails ↦ elim (cases_lt outside component) [
         | inl early ↦
             let e : next ≡ outside = past_it fails ∙ omega arith in
-            subst (λ n. IsScan types value before old new (component + 1) n) (sym e) (record {
+            subst (λ n. IsScan bounds value before old new (component + 1) n) (sym e) (record {
               kept = s.kept;
               typed = λ j low less. s.typed j (omega arith) less;
               untyped = λ less. (omega (arith, (s.untyped less).0), (s.untyped less).1);
@@ -53,7 +54,7 @@ scan-next types value before old cells new component outside next inside s here 
             })
         | inr late ↦
             let e : next ≡ component = past_it fails ∙ omega arith in
-            subst (λ n. IsScan types value before old new (component + 1) n) (sym e) (record {
+            subst (λ n. IsScan bounds value before old new (component + 1) n) (sym e) (record {
               kept = omega (arith, s.kept);
               typed = λ j low less. s.typed j less (omega arith);
               untyped = λ less. (omega arith, fails);
@@ -63,49 +64,49 @@ scan-next types value before old cells new component outside next inside s here 
     ]
 
 -- the first points were looked at
-pub record IsScanned (types : List ℕ) (points : List (List ℤ)) (k : ℕ) (cells : List ℤ) (outside : ℕ) : Type 0 where
-  pub within : outside ≤ length types
-  pub before : (i j : ℕ) → i < k → j < outside → in_type (get_or types j 0) (get_or (get_or points i []) j (pos 0)) ≡ true
-  pub here : outside < length types → (i : ℕ) × (i < k) × (in_type (get_or types outside 0) (get_or (get_or points i []) outside (pos 0)) ≡ false)
-  pub cells_are : outside ≡ length types → cells ≡ cells_of (take k points)
+pub record IsScanned (bounds : List Bounds) (points : List (List ℤ)) (k : ℕ) (cells : List ℤ) (outside : ℕ) : Type 0 where
+  pub within : outside ≤ length bounds
+  pub before : (i j : ℕ) → i < k → j < outside → in_bounds (get_or bounds j no_bounds) (get_or (get_or points i []) j (pos 0)) ≡ true
+  pub here : outside < length bounds → (i : ℕ) × (i < k) × (in_bounds (get_or bounds outside no_bounds) (get_or (get_or points i []) outside (pos 0)) ≡ false)
+  pub cells_are : outside ≡ length bounds → cells ≡ cells_of (take k points)
 
 -- one point more
-pub scanned-next : (types : List ℕ) (points : List (List ℤ)) (k : ℕ) (cells new : List ℤ) (outside next : ℕ) (value : ℕ → ℤ) → k < length points
-    → get_or points k [] ≡ map value (range_with_len 0 (length types)) → IsScanned types points k cells outside → next ≤ outside
-    → ((j : ℕ) → j < next → in_type (get_or types j 0) (value j) ≡ true)
-    → (next < outside → in_type (get_or types next 0) (value next) ≡ false)
-    → (next ≡ length types → new ≡ cells ++ map value (range_with_len 0 (length types)))
-    → IsScanned types points (k + 1) new next
-scanned-next types points k cells new outside next value inside row s kept typed untyped put =
-    let at : (j : ℕ) → j < length types → value j ≡ get_or (get_or points k []) j (pos 0) = λ j narrow.
-    sym (ap (λ r. get_or r j (pos 0)) row ∙ get_or-map-range_with_len value 0 (length types) j j (pos 0) narrow (zero-add j)) in
+pub scanned-next : (bounds : List Bounds) (points : List (List ℤ)) (k : ℕ) (cells new : List ℤ) (outside next : ℕ) (value : ℕ → ℤ) → k < length points
+    → get_or points k [] ≡ map value (range_with_len 0 (length bounds)) → IsScanned bounds points k cells outside → next ≤ outside
+    → ((j : ℕ) → j < next → in_bounds (get_or bounds j no_bounds) (value j) ≡ true)
+    → (next < outside → in_bounds (get_or bounds next no_bounds) (value next) ≡ false)
+    → (next ≡ length bounds → new ≡ cells ++ map value (range_with_len 0 (length bounds)))
+    → IsScanned bounds points (k + 1) new next
+scanned-next bounds points k cells new outside next value inside row s kept typed untyped put =
+    let at : (j : ℕ) → j < length bounds → value j ≡ get_or (get_or points k []) j (pos 0) = λ j narrow.
+    sym (ap (λ r. get_or r j (pos 0)) row ∙ get_or-map-range_with_len value 0 (length bounds) j j (pos 0) narrow (zero-add j)) in
     record {
       within = omega (arith, s.within);
       before = λ i j low less. elim (cases_lt i k) [
         | inl early ↦ s.before i j early (omega arith)
         | inr last ↦
-            let narrow : j < length types = omega (arith, s.within) in
+            let narrow : j < length bounds = omega (arith, s.within) in
             let same : k ≡ i = omega arith in
-            subst (λ m. in_type (get_or types j 0) (get_or (get_or points m []) j (pos 0)) ≡ true) same
-            (subst (λ v. in_type (get_or types j 0) v ≡ true) (at j narrow) (typed j less))
+            subst (λ m. in_bounds (get_or bounds j no_bounds) (get_or (get_or points m []) j (pos 0)) ≡ true) same
+            (subst (λ v. in_bounds (get_or bounds j no_bounds) v ≡ true) (at j narrow) (typed j less))
       ];
       here = λ some. elim (cases_lt next outside) [
-        | inl fewer ↦ (k, omega arith, subst (λ v. in_type (get_or types next 0) v ≡ false) (at next some) (untyped fewer))
+        | inl fewer ↦ (k, omega arith, subst (λ v. in_bounds (get_or bounds next no_bounds) v ≡ false) (at next some) (untyped fewer))
         | inr same ↦
             let e : outside ≡ next = omega arith in
             let found = s.here (omega (arith, e)) in
-            (found.0, omega (arith, found.1), subst (λ n. in_type (get_or types n 0) (get_or (get_or points found.0 []) n (pos 0)) ≡ false) e found.2)
+            (found.0, omega (arith, found.1), subst (λ n. in_bounds (get_or bounds n no_bounds) (get_or (get_or points found.0 []) n (pos 0)) ≡ false) e found.2)
       ];
       cells_are = λ all.
-          let still : outside ≡ length types = omega (arith, s.within) in
+          let still : outside ≡ length bounds = omega (arith, s.within) in
           appended-more (λ (r : List ℤ). r) points k (get_or points k []) [] cells new inside (get_or_default points k [] (get_or points k []) inside) (s.cells_are still)
           (put all ∙ ap (λ r. cells ++ r) (sym row));
     }
 
 -- all points were looked at
-pub scanned-all : (types : List ℕ) (points : List (List ℤ)) (k : ℕ) (cells : List ℤ) (outside : ℕ) → k ≡ length points → IsScanned types points k cells outside
-    → FirstOutside types points outside × (outside ≡ length types → cells ≡ cells_of points)
-scanned-all types points k cells outside end s = (
+pub scanned-all : (bounds : List Bounds) (points : List (List ℤ)) (k : ℕ) (cells : List ℤ) (outside : ℕ) → k ≡ length points → IsScanned bounds points k cells outside
+    → FirstOutside bounds points outside × (outside ≡ length bounds → cells ≡ cells_of points)
+scanned-all bounds points k cells outside end s = (
   record {
     within = s.within;
     before = λ i j low less. s.before i j (omega (arith, end)) less;

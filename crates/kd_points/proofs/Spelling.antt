@@ -1,29 +1,27 @@
 -- Heads and extents that are read back from their bytes.
-use Rattle.std.proofs.Common.{◌≡◌, ℕ, zero, suc, ◌/◌, ◌^◌, ◌<◌, ◌≤◌, true, false, ℤ, pos, negsuc, FitsSigned, List, [], ◌∷◌, ◌++◌, length, map, flat_map, Option, None, Some, Ok, refl, subst, arith}
-use Rattle.std.specs.Prelude.{◌==◌, ◌&&◌, nat_le}
-use Rattle.std.specs.Int.{w32, cast_signed, cast_unsigned}
-use Rattle.std.specs.List.{All}
-use Rattle.std.proofs.lemmas.Bool.{le-leb, leb-true, eqb-true, ne_eqb, and_parts, and_from}
-use Rattle.std.proofs.Math.Bool.{or-true}
-use Rattle.std.proofs.lemmas.Int.{to_z-of_z}
+use Rattle.std.proofs.Common.{◌≡◌, ℕ, ◌≤◌, true, false, FitsSigned, [], ◌∷◌, ◌++◌, length, flat_map, Option, None, Some, Bool, if◌then◌else◌, Ok, refl, sym, ◌∙◌, ap, subst, arith}
+use Rattle.std.specs.Prelude.{◌&&◌, nat_le}
+use Rattle.std.specs.Int.{w32, cast_unsigned}
+use Rattle.std.proofs.lemmas.Bool.{le-leb, eqb-true}
 use Rattle.std.proofs.lemmas.List.{map-id}
-use Rattle.std.proofs.lemmas.List.Elements.{All-head, All-tail}
 use Rattle.drc_base.specs.declared.kinds.Kind.TheVariants as kind
-use Rattle.drc_base.specs.declared.limits.TheConstants.{MAX_COMPONENTS}
 use Rattle.drc_base.specs.Steps.{◌>>=◌}
-use Rattle.drc_bits.specs.Reading.{Reading, Item, must, many_at}
-use Rattle.drc_bits.specs.Numbers.{number_at, signed_at, little_endian}
+use Rattle.drc_bits.specs.Reading.{must, many_at}
+use Rattle.drc_bits.specs.Numbers.{number_at, signed_at}
 use Rattle.drc_bits.specs.Bits.{low_bytes}
-use Rattle.drc_bits.specs.Varint.{var32_at, spelling}
 use Rattle.drc_bits.specs.Spells.{Spells}
-use Rattle.drc_bits.proofs.Spelled.{Spells-all, Spells-byte, Spells-low_bytes, Spells-map, Spells-must, Spells-none, Spells-signed, Spells-then, Spells-var32}
+use Rattle.drc_bits.proofs.Spelled.{Spells-all, Spells-byte, Spells-low_bytes, Spells-map, Spells-must, Spells-none, Spells-signed, Spells-then}
 use Rattle.attr_heads.specs.declared.heads.Head.{Head}
 use Rattle.attr_heads.specs.declared.quants.Quant.{Quant}
 use Rattle.attr_heads.specs.Quants.{has_minima, has_bits}
 use Rattle.attr_heads.specs.Head.{has_type}
 use Rattle.attr_heads.proofs.Passing.{HeadSays}
 use Rattle.kd_points.specs.declared.extents.Extent.{Extent}
-use Rattle.attr_heads.specs.HeadItems.{head_at, head_bytes, bare_head, HeadPasses}
+use Rattle.attr_heads.specs.HeadItems.{head_at, head_bytes, stream_head, HeadPasses}
+use Rattle.attr_heads.specs.declared.codings.Coding.{Coding}
+use Rattle.attr_heads.specs.declared.codings.Coding.TheVariants.{Integer, Quantised}
+use Rattle.attr_heads.specs.Codings.{coding_facts, coding_under, coded_under}
+use Rattle.attr_heads.specs.DataTypes.{is_float}
 use Rattle.attr_heads.proofs.Types.{integer_no_float, type_passes}
 use Rattle.attr_heads.proofs.HeadsBack.{Spells-head as Spells-bare}
 use Rattle.kd_points.specs.Header.{extent_at, kd_head_at, kd_quant_at, kd_quant_of_at}
@@ -55,7 +53,7 @@ Spells-quant comps q long bits fit =
     (Spells-map (λ m. record { bits = q.bits; range = q.range; min = m }) (many_at (number_at 4) comps) (flat_map (low_bytes 4) q.min) q.min minima))
 
 -- the quantisation of a head, and none
-Spells-quant_of : (dtype comps : ℕ) (quant : Option Quant) → has_type dtype quant ≡ true → has_minima comps quant ≡ true → has_bits quant ≡ true → KdQuantFits quant
+Spells-quant_of : (dtype comps : ℕ) (quant : Option Quant) → has_type dtype quant None ≡ true → has_minima comps quant ≡ true → has_bits quant ≡ true → KdQuantFits quant
     → Spells (kd_quant_of_at dtype comps) (kd_quant_bytes quant) quant
 unfolding kd_quant_of_at
 Spells-quant_of dtype comps None typed minima bits fit =
@@ -65,12 +63,29 @@ Spells-quant_of dtype comps (Some q) typed minima bits fit =
     let spelled = Spells-map (λ (x : Quant). Some x) (kd_quant_at comps) (kd_quant_bytes (Some q)) q (Spells-quant comps q (eqb-true (length q.min) comps minima) bits fit) in
     record { reads = λ place rest. rw typed (spelled.reads place rest) }
 
+-- a head without a square stands in a stream with its integers as components
+stream-unsquared : (h : Head) → h.octa ≡ None → stream_head h ≡ record h { quant = None; octa = None }
+stream-unsquared h unsquared =
+    ap (λ (q : Coding). record h { comps = coded_under (coding_facts q).fixed h.comps; quant = None; octa = None }) (ap (coding_under h.dtype) unsquared)
+    ∙ by_type (is_float h.dtype)
+  where
+    by_type : (float : Bool) → record h { comps = coded_under (coding_facts (if float then Quantised else Integer)).fixed h.comps; quant = None; octa = None }
+        ≡ record h { quant = None; octa = None }
+    by_type true = refl
+    by_type false = refl
+
+unsquared-typed : (h : Head) → h.octa ≡ None → has_type h.dtype h.quant h.octa ≡ true → has_type h.dtype h.quant None ≡ true
+unsquared-typed h unsquared typed = subst (λ (o : Option ℕ). has_type h.dtype h.quant o ≡ true) unsquared typed
+
 -- a head
-pub Spells-head : (h : Head) → HeadSays h → KdHeadFits h → Spells kd_head_at (kd_head_bytes h) h
+pub Spells-head : (h : Head) → h.octa ≡ None → HeadSays h → KdHeadFits h → Spells kd_head_at (kd_head_bytes h) h
 unfolding kd_head_at
-Spells-head h says fits =
-    let passes : HeadPasses h = record { usage = says.usage; dtype = type_passes h.dtype h.quant says.typed; some = says.some; few = says.few } in
-    Spells-then head_at (λ b c. kd_quant_of_at b.dtype b.comps c >>= λ q. Ok (record b { quant = q.0 }, q.1))
-    (head_bytes h) (kd_quant_bytes h.quant) (bare_head h) h (Spells-bare h passes fits.id)
-    (Spells-map (λ q. record (bare_head h) { quant = q }) (kd_quant_of_at h.dtype h.comps) (kd_quant_bytes h.quant) h.quant
-    (Spells-quant_of h.dtype h.comps h.quant says.typed says.minima says.bits fits.quant))
+Spells-head h unsquared says fits =
+    let passes : HeadPasses h = record { usage = says.usage; dtype = type_passes h.dtype h.quant h.octa says.typed; some = says.some; few = says.few } in
+    let bare : Spells head_at (head_bytes h) (record h { quant = None; octa = None }) =
+    subst (λ (g : Head). Spells head_at (head_bytes h) g) (stream-unsquared h unsquared) (Spells-bare h passes fits.id) in
+    subst (λ (o : Option ℕ). Spells kd_head_at (kd_head_bytes h) (record h { octa = o })) (sym unsquared)
+    (Spells-then head_at (λ b c. kd_quant_of_at b.dtype b.comps c >>= λ q. Ok (record b { quant = q.0; octa = None }, q.1))
+    (head_bytes h) (kd_quant_bytes h.quant) (record h { quant = None; octa = None }) (record h { octa = None }) bare
+    (Spells-map (λ q. record h { quant = q; octa = None }) (kd_quant_of_at h.dtype h.comps) (kd_quant_bytes h.quant) h.quant
+    (Spells-quant_of h.dtype h.comps h.quant (unsquared-typed h unsquared says.typed) says.minima says.bits fits.quant)))

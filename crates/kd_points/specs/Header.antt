@@ -51,7 +51,7 @@ unfoldable pub kd_head_at : Reading → Item Head
 kd_head_at c = do
   h ← head_at c
   quant ← kd_quant_of_at h.0.dtype h.0.comps h.1
-  Ok (record h.0 { quant = quant.0 }, quant.1)
+  Ok (record h.0 { quant = quant.0; octa = None }, quant.1)
 
 -- the heads of all attributes
 unfoldable pub kd_heads_at : Reading → Item (List Head)

@@ -1,6 +1,6 @@
 -- What a kd-tree file of points means (this project's choice): its points in the order of the tree.
 use Rattle.std.specs.Prelude.{◌≡◌, ℕ, ◌+◌, ◌*◌, ◌<◌, ◌≤◌, ℤ, pos, not, Bool, true, false}
-use Rattle.std.specs.Prelude.{List, [], length, map, slice_index, slice_index_or, Option, Result, Ok, option_map, position}
+use Rattle.std.specs.Prelude.{List, [], length, map, slice_index_or, Option, Result, Ok, option_map, position}
 use Rattle.std.specs.List.{range_with_len, list_all}
 use Rattle.drc_base.specs.declared.faults.Fault.{Fault}
 use Rattle.drc_base.specs.declared.kinds.Kind.TheVariants as kind
@@ -11,8 +11,9 @@ use Rattle.attr_heads.specs.declared.heads.Head.{Head}
 use Rattle.mesh_model.specs.declared.geometries.Geometry.{Geometry}
 use Rattle.mesh_model.specs.declared.geometries.Geometry.TheVariants.{Cloud}
 use Rattle.attr_heads.specs.FirstFault.{at_place, value_unless}
-use Rattle.attr_heads.specs.DataTypes.{in_type}
-use Rattle.attr_heads.specs.Head.{width_of, types_of}
+use Rattle.attr_heads.specs.declared.bounds.Bounds.{Bounds}
+use Rattle.attr_heads.specs.Bounds.{in_bounds, no_bounds}
+use Rattle.attr_heads.specs.Head.{width_of, row_bounds}
 use Rattle.mesh_model.specs.Parts.{CloudParts}
 use Rattle.kd_tree.specs.Keys.{Key}
 use Rattle.kd_tree.specs.Reading.{tree_of}
@@ -32,20 +33,20 @@ tree_at depth count c = do
   tree ← tree_of (record { kind = kind.KdSplit; at = c.place }) depth count (record { split = split.0; rest = rest.0 })
   Ok (tree.0, rest.1)
 
--- whether all points have an integer of its data type in a component
+-- whether all points have an integer within its bounds in a component
 abbrev pub are_points_typed : List Head → List (List ℤ) → ℕ → Bool
 are_points_typed heads points component =
-    list_all (λ row. in_type (slice_index (types_of heads) component) (slice_index_or row component (pos 0))) points
+    list_all (λ row. in_bounds (slice_index_or (row_bounds heads) component no_bounds) (slice_index_or row component (pos 0))) points
 
--- component r is the first with an integer outside its data type; the number of components stands for none
-pub record FirstOutside (types : List ℕ) (points : List (List ℤ)) (r : ℕ) : Type 0 where
-  pub within : r ≤ length types
+-- component r is the first with an integer outside its bounds; the number of components stands for none
+pub record FirstOutside (row : List Bounds) (points : List (List ℤ)) (r : ℕ) : Type 0 where
+  pub within : r ≤ length row
   pub before : (i j : ℕ) → i < length points → j < r
-      → in_type (slice_index types j) (slice_index_or (slice_index_or points i []) j (pos 0)) ≡ true
-  pub here : r < length types
-      → (i : ℕ) × (i < length points) × (in_type (slice_index types r) (slice_index_or (slice_index_or points i []) r (pos 0)) ≡ false)
+      → in_bounds (slice_index_or row j no_bounds) (slice_index_or (slice_index_or points i []) j (pos 0)) ≡ true
+  pub here : r < length row
+      → (i : ℕ) × (i < length points) × (in_bounds (slice_index_or row r no_bounds) (slice_index_or (slice_index_or points i []) r (pos 0)) ≡ false)
 
--- the fault of the first component with an integer outside its data type, at its extent
+-- the fault of the first component with an integer outside its bounds, at its extent
 unfoldable pub typed_fault : List Head → ℕ → List (List ℤ) → Option Fault
 typed_fault heads at points =
     at_place kind.ValueRange (option_map (λ component. at + extent_size * component)

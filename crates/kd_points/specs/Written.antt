@@ -1,5 +1,5 @@
 -- The file of a cloud, and the order of its points (this project's choice).
-use Rattle.std.specs.Prelude.{◌≡◌, ℕ, ◌*◌, Bool, not, nat_lt, nat_le, Option, None, Some, Result}
+use Rattle.std.specs.Prelude.{◌≡◌, ℕ, ◌*◌, Bool, not, nat_lt, nat_le, Option, None, Some, is_some, position, Result}
 use Rattle.std.specs.Prelude.{List, [], ◌∷◌, ◌++◌, length, map, flat_map}
 use Rattle.std.specs.Int.{w32, cast_unsigned}
 use Rattle.drc_base.specs.declared.faults.Fault.{Fault}
@@ -11,7 +11,7 @@ use Rattle.rans_binary.specs.Blocks.{block}
 use Rattle.attr_heads.specs.declared.heads.Head.{Head}
 use Rattle.attr_heads.specs.declared.quants.Quant.{Quant}
 use Rattle.mesh_model.specs.declared.geometries.Geometry.{Geometry}
-use Rattle.attr_heads.specs.FirstFault.{unless, first_fault, value_unless}
+use Rattle.attr_heads.specs.FirstFault.{unless, at_place, first_fault, value_unless}
 use Rattle.mesh_model.specs.Contents.{heads_in, points_in, is_mesh}
 use Rattle.attr_heads.specs.Head.{width_of}
 use Rattle.attr_heads.specs.HeadItems.{head_bytes}
@@ -23,10 +23,15 @@ use Rattle.kd_points.specs.declared.extents.Extent.{Extent}
 use Rattle.kd_points.specs.Extents.{extents_of, keys_of, depth_of}
 use Rattle.kd_points.specs.Header.{kd_magic, version}
 
--- why a geometry isn't written: it is a mesh, it has no points, too many, or too many integers
+-- the first attribute with a square: a file has no place for its bits
+abbrev pub square_fault : Geometry → Option Fault
+square_fault g = at_place kind.Octahedral (position (λ h. is_some h.octa) (heads_in g))
+
+-- why a geometry isn't written: it is a mesh, it has an octahedral attribute, no points, too many, or too many integers
 unfoldable pub kd_fault : Geometry → Option Fault
 kd_fault g = first_fault (
     unless (not (is_mesh g)) kind.KdMesh 0
+    ∷ square_fault g
     ∷ unless (nat_lt 0 (length (points_in g))) kind.Empty 0
     ∷ unless (nat_le (length (points_in g)) MAX_KD_POINTS) kind.PointLimit (length (points_in g))
     ∷ unless (nat_le (length (points_in g) * width_of (heads_in g)) MAX_KD_VALUES) kind.KdLimit

@@ -1,10 +1,12 @@
 //! Reading a file of points.
 
-ghost use Rattle.std.specs.Prelude.{◌≡◌, Err, IfOk, length};
+ghost use Rattle.std.specs.Prelude.{◌≡◌, Err, IfOk, IsTrue, length};
 ghost use Rattle.drc_base.specs.declared.faults.Fault.{Fault as AnyFault};
 ghost use Rattle.drc_base.specs.declared.faults.Refusal.TheVariants as refusal;
 ghost use Rattle.drc_base.specs.Refusals.{Answers};
 ghost use Rattle.drc_bits.specs.Reading.{Gives};
+ghost use Rattle.attr_heads.specs.ProfileHeads.{has_heads};
+ghost use Rattle.mesh_model.specs.Contents.{heads_in};
 ghost use Rattle.kd_points.specs.Header.{kd_declared_at};
 ghost use Rattle.kd_points.specs.Meaning.{tree_at, file_at, kd_meaning, kd_declared_of};
 
@@ -56,9 +58,11 @@ fn read_file(alloc: Global, c: &mut Cursor<'_>) -> Result<Cloud, Refusal>
 /// points lie in a part of a box than in the box; `ValueRange` at the extent of the first component with an
 /// integer outside its data type; and `Short` and `Long`. Bytes behind the end aren't looked at.
 /// The faults of the first bytes, the version and the number of attributes come before out of memory.
+/// No attribute has a square, so that each profile has all of them.
 pub fn kd_decode(alloc: Global, bytes: &[u8]) -> Result<Geometry, Refusal>
     ensures meaning { Answers (λ g. g) (kd_meaning bytes.now) result }
     ensures early { (f : AnyFault) → kd_declared_of bytes.now ≡ Err f → result ≡ Err (refusal.Fault f) }
+    ensures heads { IfOk result (λ g. IsTrue (has_heads 2 (heads_in g))) }
 {
     let mut c = Cursor::new(bytes);
     let cloud = read_file(alloc, &mut c)?;

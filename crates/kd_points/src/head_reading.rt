@@ -81,7 +81,11 @@ fn read_head(alloc: Global, c: &mut Cursor<'_>) -> Result<Head, Refusal>
 {
     let head = read_bare_head(c)?;
     let quant = read_quant_of(alloc, c, head.dtype, head.comps)?;
-    Ok(Head { quant, ..head })
+    Ok(Head {
+        quant,
+        octa: None,
+        ..head
+    })
 }
 
 /// The heads of `n` attributes.

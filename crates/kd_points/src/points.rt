@@ -1,10 +1,11 @@
 //! Points from their keys.
 
-ghost use Rattle.std.specs.Prelude.{◌≡◌, ◌<◌, ◌≤◌, ◌^◌, ◌+◌, ◌++◌, ◌*◌, ◌≤ℤ◌, ℕ, pos, negsuc, [], ◌∷◌, true, false, IsTrue, None, map, min, replicate, IfOk, OnOk, All, length, slice_index, slice_set};
+ghost use Rattle.std.specs.Prelude.{◌≡◌, ◌<◌, ◌≤◌, ◌^◌, ◌+◌, ◌++◌, ◌*◌, ◌≤ℤ◌, ℕ, pos, negsuc, [], ◌∷◌, true, false, IsTrue, None, map, min, replicate, IfOk, OnOk, All, length, slice_index, slice_index_or, slice_set};
 ghost use Rattle.std.specs.List.{range_with_len};
 ghost use Rattle.drc_base.specs.Refusals.{Answers};
-ghost use Rattle.attr_heads.specs.DataTypes.{in_type};
-ghost use Rattle.attr_heads.specs.Head.{heads_fault, types_of, width_of};
+ghost use Rattle.attr_heads.specs.Bounds.{in_bounds, no_bounds};
+ghost use Rattle.attr_heads.specs.Octahedra.{has_square_bits};
+ghost use Rattle.attr_heads.specs.Head.{heads_fault, row_bounds, width_of};
 ghost use Rattle.mesh_model.specs.Parts.{cells_of};
 ghost use Rattle.kd_tree.specs.Keys.{key_at};
 ghost use Rattle.kd_tree.specs.Trees.{high_bits};
@@ -15,7 +16,7 @@ ghost use Rattle.kd_points.specs.Meaning.{cloud_of_keys, FirstOutside};
 use crate::axes::Axis;
 use crate::extents::Extent;
 use crate::headers::Header;
-use attr_heads::{Head, greatest_of, least_of};
+use attr_heads::{Bounds, Head};
 use drc_base::{Fault, Kind, MAX_KD_POINTS, MAX_KD_VALUES, Memory, Refusal};
 use kd_tree::{Keys, bit_in};
 use mesh_model::Cloud;
@@ -24,25 +25,26 @@ use std::alloc::Global;
 /// How many bytes the extent of a component takes.
 const EXTENT_SIZE: u64 = 5;
 
-/// Appends a data type for each of so many components.
-fn append_types(types: &mut Vec<u8>, dtype: u8, comps: u8) -> Result<(), Memory>
-    ensures { OnOk result (types.new.items ≡ types.old.items ++ replicate comps dtype) }
+/// Appends the bounds of each of so many components.
+fn append_bounds(row: &mut Vec<Bounds>, bounds: Bounds, comps: u8) -> Result<(), Memory>
+    ensures { OnOk result (row.new.items ≡ row.old.items ++ replicate comps bounds) }
 {
     for _component in 0..comps {
-        types.push(dtype)?;
+        row.push(bounds)?;
     }
     Ok(())
 }
 
-/// The data type of each integer of a point.
-fn types_of(alloc: Global, heads: &[Head]) -> Result<Vec<u8>, Memory>
-    ensures { IfOk result (λ v. v.items ≡ types_of heads.now) }
+/// The bounds of each integer of a point.
+fn row_bounds(alloc: Global, heads: &[Head]) -> Result<Vec<Bounds>, Memory>
+    requires { All (λ h. IsTrue (has_square_bits h.octa)) heads.now }
+    ensures { IfOk result (λ v. v.items ≡ row_bounds heads.now) }
 {
-    let mut types = Vec::new(alloc);
+    let mut row = Vec::new(alloc);
     for head in heads {
-        append_types(&mut types, head.dtype, head.comps)?;
+        append_bounds(&mut row, head.bounds(), head.comps)?;
     }
-    Ok(types)
+    Ok(row)
 }
 
 /// Sets all offsets to 0.
@@ -114,29 +116,29 @@ fn fill_offsets(offsets: &mut [u32], axes: &[Axis], keys: &Keys, point: usize)
     add_key(offsets, axes, keys, point);
 }
 
-/// Whether a number is in the range of a data type.
-#[tactic(auto, unfolding(attr_heads::specs::DataTypes::in_type))]
-fn is_typed(dtype: u8, value: i64) -> bool
-    ensures typed { result ≡ in_type dtype value }
+/// Whether a number lies within bounds.
+#[tactic(auto, unfolding(attr_heads::specs::Bounds::in_bounds))]
+fn is_within(bounds: Bounds, value: i64) -> bool
+    ensures typed { result ≡ in_bounds bounds value }
     ensures low { IsTrue result → negsuc 2147483647 ≤ℤ value }
     ensures high { IsTrue result → value ≤ℤ pos 2147483647 }
 {
-    i64::from(least_of(dtype)) <= value && value <= i64::from(greatest_of(dtype))
+    i64::from(bounds.least) <= value && value <= i64::from(bounds.greatest)
 }
 
-/// Appends an integer of a component where it is in its data type. Gives the first component with an integer
-/// outside its data type, where before this one it was `outside`.
+/// Appends an integer of a component where it lies within its bounds. Gives the first component with an integer
+/// outside its bounds, where before this one it was `outside`.
 fn append_value(
     cells: &mut Vec<i32>,
-    dtype: u8,
+    bounds: Bounds,
     value: i64,
     component: usize,
     outside: usize,
 ) -> Result<usize, Memory>
-    ensures typed { IfOk result (λ r. in_type dtype value ≡ true → (r ≡ outside) × (cells.new.items ≡ cells.old.items ++ value ∷ [])) }
-    ensures outside { IfOk result (λ r. in_type dtype value ≡ false → r ≡ min outside component) }
+    ensures typed { IfOk result (λ r. in_bounds bounds value ≡ true → (r ≡ outside) × (cells.new.items ≡ cells.old.items ++ value ∷ [])) }
+    ensures outside { IfOk result (λ r. in_bounds bounds value ≡ false → r ≡ min outside component) }
 {
-    if !is_typed(dtype, value) {
+    if !is_within(bounds, value) {
         return Ok(outside.min(component));
     }
     cells.push(value as i32)?;
@@ -152,60 +154,60 @@ fn integer_at(extents: &[Extent], offsets: &[u32], component: usize) -> i64
     i64::from(extents[component].least) + i64::from(offsets[component])
 }
 
-/// Appends the integers of a point. Gives the first component with an integer outside its data type, of
+/// Appends the integers of a point. Gives the first component with an integer outside its bounds, of
 /// this point and of those before, whose first one is given; the number of components stands for none.
 fn append_point(
     cells: &mut Vec<i32>,
-    types: &[u8],
+    row: &[Bounds],
     extents: &[Extent],
     offsets: &[u32],
     before: usize,
 ) -> Result<usize, Memory>
-    requires extents { length extents.now ≡ length types.now }
-    requires offsets { length offsets.now ≡ length types.now }
-    requires before { before ≤ length types.now }
+    requires extents { length extents.now ≡ length row.now }
+    requires offsets { length offsets.now ≡ length row.now }
+    requires before { before ≤ length row.now }
     ensures kept { IfOk result (λ r. r ≤ before) }
-    ensures typed { IfOk result (λ r. (j : ℕ) → j < r → in_type (slice_index types.now j) (integer_at extents.now offsets.now j) ≡ true) }
-    ensures outside { IfOk result (λ r. r < before → in_type (slice_index types.now r) (integer_at extents.now offsets.now r) ≡ false) }
-    ensures cells { IfOk result (λ r. r ≡ length types.now → cells.new.items ≡ cells.old.items ++ map (integer_at extents.now offsets.now) (range_with_len 0 (length types.now))) }
+    ensures typed { IfOk result (λ r. (j : ℕ) → j < r → in_bounds (slice_index_or row.now j no_bounds) (integer_at extents.now offsets.now j) ≡ true) }
+    ensures outside { IfOk result (λ r. r < before → in_bounds (slice_index_or row.now r no_bounds) (integer_at extents.now offsets.now r) ≡ false) }
+    ensures cells { IfOk result (λ r. r ≡ length row.now → cells.new.items ≡ cells.old.items ++ map (integer_at extents.now offsets.now) (range_with_len 0 (length row.now))) }
 {
     let mut outside = before;
-    for component in 0..types.len() {
+    for component in 0..row.len() {
         let value = integer_at(extents, offsets, component);
-        outside = append_value(cells, types[component], value, component, outside)?;
+        outside = append_value(cells, row[component], value, component, outside)?;
     }
     Ok(outside)
 }
 
-/// Appends the integers of the points that keys give, as long as all are in their data types. Gives the first
-/// component with an integer outside its data type; the number of components stands for none.
+/// Appends the integers of the points that keys give, as long as all lie within their bounds. Gives the first
+/// component with an integer outside its bounds; the number of components stands for none.
 fn append_points(
     cells: &mut Vec<i32>,
-    types: &[u8],
+    row: &[Bounds],
     extents: &[Extent],
     offsets: &mut [u32],
     axes: &[Axis],
     keys: &Keys,
 ) -> Result<usize, Memory>
     requires empty { cells.old.items ≡ [] }
-    requires extents { length extents.now ≡ length types.now }
-    requires offsets { length offsets.old ≡ length types.now }
+    requires extents { length extents.now ≡ length row.now }
+    requires offsets { length offsets.old ≡ length row.now }
     requires axes { axes.now ≡ axes_over extents.now }
     requires depth { keys.now.depth ≡ depth_of extents.now }
     requires small { All (λ e. e.bits ≤ 32) extents.now }
-    ensures first { IfOk result (λ r. FirstOutside types.now (map (row_within extents.now) keys.now.rows) r) }
-    ensures cells { IfOk result (λ r. r ≡ length types.now → cells.new.items ≡ cells_of (map (row_within extents.now) keys.now.rows)) }
+    ensures first { IfOk result (λ r. FirstOutside row.now (map (row_within extents.now) keys.now.rows) r) }
+    ensures cells { IfOk result (λ r. r ≡ length row.now → cells.new.items ≡ cells_of (map (row_within extents.now) keys.now.rows)) }
 {
-    let mut outside = types.len();
+    let mut outside = row.len();
     for point in 0..keys.len() {
         fill_offsets(offsets, axes, keys, point);
-        outside = append_point(cells, types, extents, offsets, outside)?;
+        outside = append_point(cells, row, extents, offsets, outside)?;
     }
     Ok(outside)
 }
 
-/// The integers of the points that keys give, as long as all are in their data types, and the first component
-/// with an integer outside its data type; the number of components stands for none.
+/// The integers of the points that keys give, as long as all lie within their bounds, and the first component
+/// with an integer outside its bounds; the number of components stands for none.
 fn points_within(
     alloc: Global,
     heads: &[Head],
@@ -213,22 +215,23 @@ fn points_within(
     axes: &[Axis],
     keys: &Keys,
 ) -> Result<(Vec<i32>, usize), Memory>
+    requires squares { All (λ h. IsTrue (has_square_bits h.octa)) heads.now }
     requires len { length extents.now ≡ width_of heads.now }
     requires axes { axes.now ≡ axes_over extents.now }
     requires depth { keys.now.depth ≡ depth_of extents.now }
     requires small { All (λ e. e.bits ≤ 32) extents.now }
-    ensures first { IfOk result (λ r. FirstOutside (types_of heads.now) (map (row_within extents.now) keys.now.rows) r.1) }
+    ensures first { IfOk result (λ r. FirstOutside (row_bounds heads.now) (map (row_within extents.now) keys.now.rows) r.1) }
     ensures cells { IfOk result (λ r. r.1 ≡ width_of heads.now → r.0.items ≡ cells_of (map (row_within extents.now) keys.now.rows)) }
 {
-    let types = types_of(alloc, heads)?;
+    let row = row_bounds(alloc, heads)?;
     let mut offsets = Vec::from_elem(alloc, 0u32, extents.len())?;
     let mut cells = Vec::new(alloc);
-    let outside = append_points(&mut cells, &types, extents, &mut offsets, axes, keys)?;
+    let outside = append_points(&mut cells, &row, extents, &mut offsets, axes, keys)?;
     Ok((cells, outside))
 }
 
 /// The cloud of a header and keys, or `ValueRange` at the extent of the first component with an integer
-/// outside its data type.
+/// outside its bounds.
 pub fn cloud_of_keys(
     alloc: Global,
     header: Header,

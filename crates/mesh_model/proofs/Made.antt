@@ -10,8 +10,8 @@ use Rattle.drc_base.specs.declared.kinds.Kind.TheVariants.{PointLimit, ValueLimi
 use Rattle.drc_base.specs.declared.limits.TheConstants.{MAX_POINTS, MAX_VALUES}
 use Rattle.attr_heads.specs.declared.heads.Head.{Head}
 use Rattle.attr_heads.specs.FirstFault.{unless, at_place, value_unless}
-use Rattle.attr_heads.specs.DataTypes.{in_type}
-use Rattle.attr_heads.specs.Head.{width_of, types_of, heads_fault}
+use Rattle.attr_heads.specs.Bounds.{in_bounds, no_bounds}
+use Rattle.attr_heads.specs.Head.{width_of, row_bounds, heads_fault}
 use Rattle.mesh_model.specs.Parts.{MeshParts, CloudParts, rows_of, cells_of, count_fault, faces_fault, index_fault, range_fault, mesh_fault, cloud_fault, mesh_of, cloud_of, AreRows, RowFits, ArePoints, IsMesh, IsCloud}
 use Rattle.mesh_model.specs.Stored.{AreStored}
 use Rattle.attr_heads.proofs.Widths.{width_of-bounds}
@@ -50,15 +50,15 @@ index_fault-none points faces inside =
     ap not (list_all-from_AllPass (λ p. ltb p points) _
     (All-weaker (λ p. p < points) (λ p. ltb p points ≡ true) (λ p t. lt-ltb p points t) _ (inside f [] below)))))
 
--- a stored row fits the heads where each cell is in its type
+-- a stored row fits the heads where each cell is within its bounds
 RowFits-stored : (heads : List Head) (cells : List ℤ) (count i : ℕ) → length cells ≡ count * width_of heads → i < count → ((k : ℕ) → k < length cells → fits_at heads cells k ≡ true) → RowFits heads (take (width_of heads) (drop (i * width_of heads) cells))
 RowFits-stored heads cells count i whole inside fit =
     let w = width_of heads in (
       length-stored_row w count cells i whole inside,
       λ j narrow.
           let within : i * w + j < w * count = mul-add-lt i w j count inside narrow in
-          ap (λ value. in_type (get_or (types_of heads) j 0) value) (get_or-stored_row w cells i j (pos 0) narrow)
-          ∙ sym (ap (λ n. in_type (get_or (types_of heads) n 0) (get_or cells (i * w + j) (pos 0))) (mod-mul-add i w j narrow))
+          ap (λ value. in_bounds (get_or (row_bounds heads) j no_bounds) value) (get_or-stored_row w cells i j (pos 0) narrow)
+          ∙ sym (ap (λ n. in_bounds (get_or (row_bounds heads) n no_bounds) (get_or cells (i * w + j) (pos 0))) (mod-mul-add i w j narrow))
           ∙ fit (i * w + j) (omega arith),
     )
 
@@ -105,7 +105,7 @@ whole-rows heads cells width rows pass is =
 pub length-stored : (heads : List Head) (cells : List ℤ) (width count : ℕ) → AreStored heads cells width count → length (rows_of width cells) ≡ count
 length-stored heads cells width count stored = length-rows_of width cells ∙ ap (λ n. n / width) stored.whole ∙ mul-div_cancel count stored.wide
 
--- where rows fit heads, each cell of their flat list is in its type
+-- where rows fit heads, each cell of their flat list is within its bounds
 fits_at-cells_of : (heads : List Head) (points : List (List ℤ)) → 0 < width_of heads → All (RowFits heads) points → (k : ℕ) → k < length points * width_of heads → fits_at heads (cells_of points) k ≡ true
 fits_at-cells_of heads points wide fit k below =
     let w = width_of heads in
@@ -117,9 +117,9 @@ fits_at-cells_of heads points wide fit k below =
     let long : All (λ row. length row ≡ w) points = λ r d b. (fit r d b).0 in
     let value : get_or (cells_of points) k (pos 0) ≡ get_or (get_or points i []) j (pos 0) =
     ap (λ n. get_or (cells_of points) n (pos 0)) (sym place) ∙ get_or-cells_of w points i j (pos 0) long inside narrow in
-    ap (in_type (get_or (types_of heads) j 0)) value ∙ (fit i [] inside).1 j narrow
+    ap (in_bounds (get_or (row_bounds heads) j no_bounds)) value ∙ (fit i [] inside).1 j narrow
 
--- where rows fit heads, no cell of their flat list is outside its type
+-- where rows fit heads, no cell of their flat list is outside its bounds
 pub range_fault-cells_of : (heads : List Head) (points : List (List ℤ)) → heads_fault heads ≡ None → All (RowFits heads) points → range_fault heads (cells_of points) ≡ None
 range_fault-cells_of heads points pass fit =
     let w = width_of heads in

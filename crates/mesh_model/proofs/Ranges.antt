@@ -1,4 +1,4 @@
--- Where the first value outside its data type stands.
+-- Where the first value outside the bounds of its column stands.
 use Rattle.std.proofs.Common.{◌≡◌, ℕ, ◌+◌, ◌*◌, ◌%◌, ◌<◌, Bool, true, false, not, List, length, get_or, take, Some, None, ℤ, pos, sym, ap, ◌∙◌, zero-add, arith}
 use Rattle.std.specs.List.{enumerate_from}
 use Rattle.std.proofs.lemmas.List.{get_or-take}
@@ -7,26 +7,27 @@ use Rattle.std.proofs.lemmas.Nat.{mod-mul-add}
 use Rattle.drc_base.specs.declared.kinds.Kind.TheVariants.{ValueRange}
 use Rattle.attr_heads.specs.declared.heads.Head.{Head}
 use Rattle.attr_heads.specs.FirstFault.{at_place}
-use Rattle.attr_heads.specs.DataTypes.{in_type}
-use Rattle.attr_heads.specs.Head.{types_of, width_of}
+use Rattle.attr_heads.specs.declared.bounds.Bounds.{Bounds}
+use Rattle.attr_heads.specs.Bounds.{in_bounds, no_bounds}
+use Rattle.attr_heads.specs.Head.{row_bounds, width_of}
 use Rattle.mesh_model.specs.Parts.{range_fault}
 use Rattle.mesh_model.proofs.Places.{position-none, position-at, position-none_back}
 use Rattle.attr_heads.proofs.FirstFaults.{at_place-none}
 use Rattle.std.proofs.lemmas.Bool.{not-false}
 
--- whether cell k is in its type
+-- whether cell k is within its bounds
 abbrev pub fits_at : List Head → List ℤ → ℕ → Bool
-fits_at heads cells k = in_type (get_or (types_of heads) (k % width_of heads) 0) (get_or cells k (pos 0))
+fits_at heads cells k = in_bounds (get_or (row_bounds heads) (k % width_of heads) no_bounds) (get_or cells k (pos 0))
 
 -- the test of an enumerated cell
 abbrev fails_at : List Head → ℕ × ℤ → Bool
-fails_at heads (i, value) = not (in_type (get_or (types_of heads) (i % width_of heads) 0) value)
+fails_at heads (i, value) = not (in_bounds (get_or (row_bounds heads) (i % width_of heads) no_bounds) value)
 
 fails_at-get_or : (heads : List Head) (cells : List ℤ) (k : ℕ) → k < length cells → fails_at heads (get_or (enumerate_from 0 cells) k (0, pos 0)) ≡ not (fits_at heads cells k)
 fails_at-get_or heads cells k inside =
     ap (fails_at heads) (get_or-enumerate_from 0 cells k (0, pos 0) inside) ∙ ap (λ i. fails_at heads (i, get_or cells k (pos 0))) (zero-add k)
 
--- every cell is in its type
+-- every cell is within its bounds
 pub range_fault-none : (heads : List Head) (cells : List ℤ) → ((k : ℕ) → k < length cells → fits_at heads cells k ≡ true) → range_fault heads cells ≡ None
 unfolding range_fault
 range_fault-none heads cells fit =
@@ -43,15 +44,15 @@ range_fault-at heads cells i inside fit fails =
     (λ k below. let inside : k < length cells = omega arith in fails_at-get_or heads cells k inside ∙ ap not (fit k below))
     (fails_at-get_or heads cells i inside ∙ ap not fails))
 
--- the type of a column, read from an array that has the types at its front
-pub fits_at-column : (heads : List Head) (cells : List ℤ) (types : List ℕ) (k r column : ℕ) → take (width_of heads) types ≡ types_of heads → k ≡ r * width_of heads + column → column < width_of heads → fits_at heads cells k ≡ in_type (get_or types column 0) (get_or cells k (pos 0))
-fits_at-column heads cells types k r column front place narrow =
+-- the bounds of a column, read from an array that has those of the row at its front
+pub fits_at-column : (heads : List Head) (cells : List ℤ) (bounds : List Bounds) (k r column : ℕ) → take (width_of heads) bounds ≡ row_bounds heads → k ≡ r * width_of heads + column → column < width_of heads → fits_at heads cells k ≡ in_bounds (get_or bounds column no_bounds) (get_or cells k (pos 0))
+fits_at-column heads cells bounds k r column front place narrow =
     let at : k % width_of heads ≡ column = ap (λ n. n % width_of heads) place ∙ mod-mul-add r (width_of heads) column narrow in
-    let dtype : get_or (types_of heads) (k % width_of heads) 0 ≡ get_or types column 0 =
-    ap (λ n. get_or (types_of heads) n 0) at ∙ ap (λ xs. get_or xs column 0) (sym front) ∙ get_or-take (width_of heads) types column 0 narrow in
-    ap (λ d. in_type d (get_or cells k (pos 0))) dtype
+    let same : get_or (row_bounds heads) (k % width_of heads) no_bounds ≡ get_or bounds column no_bounds =
+    ap (λ n. get_or (row_bounds heads) n no_bounds) at ∙ ap (λ xs. get_or xs column no_bounds) (sym front) ∙ get_or-take (width_of heads) bounds column no_bounds narrow in
+    ap (λ b. in_bounds b (get_or cells k (pos 0))) same
 
--- where there is no fault, every cell is in its type
+-- where there is no fault, every cell is within its bounds
 pub range_fault-none_back : (heads : List Head) (cells : List ℤ) → range_fault heads cells ≡ None → (k : ℕ) → k < length cells → fits_at heads cells k ≡ true
 unfolding range_fault
 range_fault-none_back heads cells none k inside =

@@ -10,7 +10,7 @@ use Rattle.drc_base.specs.declared.limits.TheConstants.{MAX_FACES}
 use Rattle.attr_heads.specs.declared.heads.Head.{Head}
 use Rattle.mesh_model.specs.Groups.{AttrTable}
 use Rattle.attr_heads.specs.FirstFault.{value_unless}
-use Rattle.attr_heads.specs.DataTypes.{in_type}
+use Rattle.attr_heads.specs.Bounds.{in_bounds, bounds_of}
 use Rattle.attr_heads.specs.Head.{width_of, heads_fault}
 use Rattle.mesh_model.specs.Parts.{MeshParts, count_fault}
 
@@ -65,11 +65,11 @@ assembled heads tables faces =
     let m = assembled_parts heads tables faces in
     value_unless (count_fault (length m.points) (width_of heads)) m
 
--- a table has an entry for each corner, and its values are in the range of its head's type
+-- a table has an entry for each corner, and its values are within the bounds of its head
 pub record IsAttrTable (corners : ℕ) (column : Head × AttrTable) : Type 0 where
   pub each_corner : length column.1.of_corner ≡ corners
   pub entries : All (λ e. (e + 1) * column.0.comps ≤ length column.1.values) column.1.of_corner
-  pub values : All (λ value. IsTrue (in_type column.0.dtype value)) column.1.values
+  pub values : All (λ value. IsTrue (in_bounds (bounds_of column.0) value)) column.1.values
 
 -- each head has its table
 pub record AreAttrTables (corners : ℕ) (heads : List Head) (tables : List AttrTable) : Type 0 where

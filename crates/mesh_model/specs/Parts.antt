@@ -1,6 +1,6 @@
 -- What a geometry is to contracts: heads, rows of integers, and triples of point numbers; and the
 -- tests that a geometry passes (this project's choice; value ranges after the Draco Bitstream
--- Specification 2.2, attribute data types).
+-- Specification 2.2, attribute data types; those of octahedral attributes are this project's choice).
 use Rattle.std.specs.Prelude.{ℕ, ◌≡◌, ◌≤◌, ◌<◌, ◌*◌, ◌/◌, ◌%◌, ℤ, pos, not, IsTrue, List, [], ◌∷◌, map, length, take, drop}
 use Rattle.std.specs.Prelude.{slice_index_or, slice_index, Option, None, Result, All, flat_map, position, nat_le, nat_lt}
 use Rattle.std.specs.List.{range_with_len, enumerate_from, list_all}
@@ -9,8 +9,8 @@ use Rattle.drc_base.specs.declared.kinds.Kind.TheVariants.{PointLimit, ValueLimi
 use Rattle.drc_base.specs.declared.limits.TheConstants.{MAX_POINTS, MAX_VALUES, MAX_FACES}
 use Rattle.attr_heads.specs.declared.heads.Head.{Head}
 use Rattle.attr_heads.specs.FirstFault.{unless, first_fault, at_place, value_unless}
-use Rattle.attr_heads.specs.DataTypes.{in_type}
-use Rattle.attr_heads.specs.Head.{width_of, types_of, heads_fault}
+use Rattle.attr_heads.specs.Bounds.{in_bounds, no_bounds}
+use Rattle.attr_heads.specs.Head.{width_of, row_bounds, heads_fault}
 
 -- a mesh: the heads of its attributes, its points, each a row of the integers of all attributes in
 -- order, and its faces, each a list of three point numbers
@@ -47,10 +47,11 @@ faces_fault faces = unless (nat_le (length faces) MAX_FACES) FaceLimit (length f
 unfoldable pub index_fault : ℕ → List (List ℕ) → Option Fault
 index_fault points faces = at_place IndexRange (position (λ face. not (list_all (λ p. nat_lt p points) face)) faces)
 
--- the fault of the first cell outside its data type, which its column in the row gives
+-- the fault of the first cell outside the bounds of its column in the row: those of a data type, or of a square
 unfoldable pub range_fault : List Head → List ℤ → Option Fault
 range_fault heads cells = at_place ValueRange (
-    position (λ (i, value). not (in_type (slice_index (types_of heads) (i % width_of heads)) value)) (enumerate_from 0 cells))
+    position (λ (i, value). not (in_bounds (slice_index_or (row_bounds heads) (i % width_of heads) no_bounds) value))
+    (enumerate_from 0 cells))
 
 -- the first fault of heads, a flat list of points and faces that are to be a mesh
 abbrev pub mesh_fault : List Head → List ℤ → List (List ℕ) → Option Fault
@@ -85,11 +86,11 @@ cloud_of heads cells = value_unless (cloud_fault heads cells) (record { heads = 
 abbrev pub AreRows : List Head → List ℤ → Type 0
 AreRows heads cells = heads_fault heads ≡ None → length cells % width_of heads ≡ 0
 
--- a row has the integers that the heads say, each in the range of its data type
+-- a row has the integers that the heads say, each within the bounds of its column
 abbrev pub RowFits : List Head → List ℤ → Type 0
 RowFits heads row =
     (length row ≡ width_of heads)
-    × ((j : ℕ) → j < width_of heads → IsTrue (in_type (slice_index (types_of heads) j) (slice_index_or row j (pos 0))))
+    × ((j : ℕ) → j < width_of heads → IsTrue (in_bounds (slice_index_or (row_bounds heads) j no_bounds) (slice_index_or row j (pos 0))))
 
 -- the heads pass, and each row fits them, within the limits
 pub record ArePoints (heads : List Head) (points : List (List ℤ)) : Type 0 where

@@ -40,10 +40,12 @@ impl Cloud {
     ghost use Rattle.mesh_model.specs.Stored.{AreStored};
 
     /// The cloud of these heads and points (row after row). It takes no memory. Refusals, the first
-    /// that applies: NoAttribute and AttrLimit at the number of heads; AttrType, DataType,
-    /// Components and QuantBits at the number of the first head that has one; PointLimit at the
-    /// number of points, ValueLimit at points times width; ValueRange at the first integer of
-    /// `points` outside its data type.
+    /// that applies: NoAttribute and AttrLimit at the number of heads; AttrType, DataType (also where
+    /// `dtype` is 9 without exactly one of a quantisation and a square), Components (also where a square
+    /// hasn't two) and QuantBits (of a quantisation 1 to 30, of a square 2 to 30) at the number of the
+    /// first head that has one; PointLimit at the number of points, ValueLimit at points times width;
+    /// ValueRange at the first integer of `points` outside its data type or, of a square of `bits` bits,
+    /// outside 0 to 2^bits - 2.
     pub fn new(heads: Vec<Head>, points: Vec<i32>) -> Result<Cloud, Refusal>
         requires { AreRows heads.items points.items }
         ensures { result ≡ answer_of (cloud_of heads.items points.items) }
@@ -51,8 +53,8 @@ impl Cloud {
         Cloud::tested(heads, points, false)
     }
 
-    /// The cloud that `new` gives, or its refusal, where each integer is known to be in its data type: none
-    /// of them is looked at. It takes no memory.
+    /// The cloud that `new` gives, or its refusal, where each integer is known to be in its data type or
+    /// square: none of them is looked at. It takes no memory.
     pub fn of_typed(heads: Vec<Head>, points: Vec<i32>) -> Result<Cloud, Refusal>
         requires rows { AreRows heads.items points.items }
         requires typed { range_fault heads.items points.items ≡ None }

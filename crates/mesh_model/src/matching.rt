@@ -41,6 +41,7 @@ fn same_head(a: &Head, b: &Head) -> bool
         && a.normalized == b.normalized
         && a.id == b.id
         && same_quants(a, b)
+        && a.octa == b.octa
 }
 
 /// Whether two lists of heads are equal.

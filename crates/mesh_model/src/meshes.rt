@@ -44,11 +44,13 @@ impl CornerMesh {
     ghost use Rattle.mesh_model.specs.Stored.{AreStored};
 
     /// The mesh of these heads, points (row after row) and faces. It takes no memory. Refusals, the
-    /// first that applies: NoAttribute and AttrLimit at the number of heads; AttrType, DataType,
-    /// Components and QuantBits at the number of the first head that has one; PointLimit at the
-    /// number of points, ValueLimit at points times width, FaceLimit at the number of faces;
-    /// IndexRange at the first face with a number that is no number of a point; ValueRange at the
-    /// first integer of `points` outside its data type.
+    /// first that applies: NoAttribute and AttrLimit at the number of heads; AttrType, DataType (also
+    /// where `dtype` is 9 without exactly one of a quantisation and a square), Components (also where a
+    /// square hasn't two) and QuantBits (of a quantisation 1 to 30, of a square 2 to 30) at the number of
+    /// the first head that has one; PointLimit at the number of points, ValueLimit at points times width,
+    /// FaceLimit at the number of faces; IndexRange at the first face with a number that is no number of a
+    /// point; ValueRange at the first integer of `points` outside its data type or, of a square of `bits`
+    /// bits, outside 0 to 2^bits - 2.
     pub fn new(
         heads: Vec<Head>,
         points: Vec<i32>,
@@ -60,8 +62,8 @@ impl CornerMesh {
         CornerMesh::tested(heads, points, faces, false)
     }
 
-    /// The mesh that `new` gives, or its refusal, where each integer is known to be in its data type: none
-    /// of them is looked at. It takes no memory.
+    /// The mesh that `new` gives, or its refusal, where each integer is known to be in its data type or
+    /// square: none of them is looked at. It takes no memory.
     pub fn of_typed(
         heads: Vec<Head>,
         points: Vec<i32>,

@@ -3,10 +3,10 @@
 ghost use Rattle.std.specs.Prelude.{◌≡◌, ◌+◌, ◌*◌, ◌/◌, ◌<◌, ◌≤◌, ◌^◌, ℕ, [], length, slice_index_or, nat_lt, not, All, position, take, IsTrue, None};
 ghost use Rattle.std.specs.List.{list_all};
 ghost use Rattle.attr_heads.specs.FirstFault.{Tests};
-ghost use Rattle.attr_heads.specs.Head.{types_of, width_of};
+ghost use Rattle.attr_heads.specs.Head.{heads_fault, row_bounds, width_of};
 ghost use Rattle.mesh_model.specs.Parts.{count_fault, faces_fault, index_fault, range_fault, rows_of};
 
-use attr_heads::{Head, in_type};
+use attr_heads::{Bounds, Head};
 use drc_base::{Fault, Kind, MAX_FACES, MAX_POINTS, MAX_VALUES};
 
 /// The most integers of a row: as many attributes as there may be, each of as many components.
@@ -76,32 +76,37 @@ pub(crate) fn test_indices(points: u32, faces: &[[u32; 3]]) -> Result<(), Fault>
     }
 }
 
-/// The data type of each integer of a row, at the front of an array.
-fn column_types(heads: &[Head]) -> [u8; MAX_WIDTH]
-    requires { width_of heads.now ≤ 128 }
-    ensures { take (width_of heads.now) result ≡ types_of heads.now }
+/// The bounds of each integer of a row, at the front of an array.
+fn column_bounds(heads: &[Head]) -> [Bounds; MAX_WIDTH]
+    requires heads { heads_fault heads.now ≡ None }
+    requires width { width_of heads.now ≤ 128 }
+    ensures { take (width_of heads.now) result ≡ row_bounds heads.now }
 {
-    let mut types = [0u8; MAX_WIDTH];
+    let mut bounds = [Bounds {
+        least: 0,
+        greatest: 0,
+    }; MAX_WIDTH];
     let mut at: usize = 0;
     for head in heads {
         let end = at + head.comps as usize;
-        types[at..end].fill(head.dtype);
+        bounds[at..end].fill(head.bounds());
         at = end;
     }
-    types
+    bounds
 }
 
-/// ValueRange at the first cell outside its data type, which its column in the row gives.
+/// ValueRange at the first cell outside the bounds of its column in the row.
 #[tactic(auto, unfolding(crate::specs::Parts::range_fault))]
 fn test_values(heads: &[Head], width: u32, cells: &[i32]) -> Result<(), Fault>
+    requires heads { heads_fault heads.now ≡ None }
     requires width { width ≡ width_of heads.now }
     requires bounds { (0 < width) × (width ≤ 128) }
     ensures { Tests (range_fault heads.now cells.now) result }
 {
-    let types = column_types(heads);
+    let bounds = column_bounds(heads);
     let mut column: usize = 0;
     for (i, value) in cells.iter().enumerate() {
-        if !in_type(types[column], *value) {
+        if !bounds[column].hold(*value) {
             return Err(Fault::new(Kind::ValueRange, i as u64));
         }
         column += 1;
@@ -112,7 +117,7 @@ fn test_values(heads: &[Head], width: u32, cells: &[i32]) -> Result<(), Fault>
     Ok(())
 }
 
-/// ValueRange at the first cell outside its data type; where it is known that there is none, no cell is
+/// ValueRange at the first cell outside the bounds of its column; where it is known that there is none, no cell is
 /// looked at.
 pub(crate) fn test_typed(
     heads: &[Head],
@@ -120,6 +125,7 @@ pub(crate) fn test_typed(
     cells: &[i32],
     typed: bool,
 ) -> Result<(), Fault>
+    requires heads { heads_fault heads.now ≡ None }
     requires width { width ≡ width_of heads.now }
     requires bounds { (0 < width) × (width ≤ 128) }
     requires typed { IsTrue typed → range_fault heads.now cells.now ≡ None }

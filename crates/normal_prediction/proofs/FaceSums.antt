@@ -3,12 +3,14 @@ use Rattle.std.proofs.Common.{◌≡◌, ℕ, ◌+◌, ◌*◌, ◌<◌, List, l
 use Rattle.std.specs.Int.{w64}
 use Rattle.std.proofs.lemmas.Int.{int_wrap-add_right}
 use Rattle.std.proofs.lemmas.Bool.Decides.{nat_tests}
-use Rattle.std.proofs.lemmas.List.{length-set}
+use Rattle.std.specs.List.{All}
+use Rattle.std.proofs.lemmas.List.{length-set, length-map}
+use Rattle.corner_table.specs.Ordered.{entries_by}
 use Rattle.wrapped_vectors.specs.Vectors.{vector_sum, reduced, cross, apart}
 use Rattle.wrapped_vectors.specs.declared.vectors.Vector.{Vector}
 use Rattle.wrapped_vectors.specs.declared.places.Place.{Place}
 use Rattle.wrapped_vectors.proofs.Products.{one-normal}
-use Rattle.normal_prediction.specs.NormalSums.{AreSums, normal_at, corner_place, corner_after, corner_before, vector_in}
+use Rattle.normal_prediction.specs.NormalSums.{AreSums, normal_at, place_at, corner_place, corner_after, corner_before, vector_in}
 use Rattle.normal_prediction.proofs.Gathering.{sums-more}
 
 after-first : (f : ℕ) → corner_after (3 * f) ≡ 3 * f + 1
@@ -60,11 +62,19 @@ pub corner-more : (entries : List ℕ) (places : List Place) (sums : List Vector
 corner-more entries places sums i e n m v so is has en em ev =
     sums-more entries places sums i e v so is has (ev ∙ rw (en, em) (reduced-right (vector_in sums e) (normal_at entries places i)))
 
-pub normal_of-is : (entries : List ℕ) (places : List Place) (f : ℕ) (u v r : Vector)
-    → u ≡ apart (corner_place entries places (3 * f + 1)) (corner_place entries places (3 * f))
-    → v ≡ apart (corner_place entries places (3 * f + 2)) (corner_place entries places (3 * f))
-    → r ≡ reduced (cross u v) → r ≡ reduced (normal_at entries places (3 * f))
-normal_of-is entries places f u v r eu ev er = er ∙ rw (eu, ev) (ap reduced (sym (normal-first entries places f)))
+-- the entry of a corner is below a number, where those of all corners are
+pub entry-below : (n : ℕ) (classes entry_of_class : List ℕ) (i e : ℕ) → All (λ (x : ℕ). x < n) (entries_by classes entry_of_class)
+    → i < length classes → e ≡ get_or (entries_by classes entry_of_class) i 0 → e < n
+entry-below n classes entry_of_class i e all has is =
+    let long = length-map classes (λ (k : ℕ). get_or entry_of_class k 0) in
+    rw is (all i 0 (omega (arith, has, long)))
+
+-- the normal by the places of the entries of a face's corners
+pub face-normal : (entries : List ℕ) (places : List Place) (f a b c : ℕ) (n : Vector)
+    → a ≡ get_or entries (3 * f) 0 → b ≡ get_or entries (3 * f + 1) 0 → c ≡ get_or entries (3 * f + 2) 0
+    → n ≡ reduced (cross (apart (place_at places b) (place_at places a)) (apart (place_at places c) (place_at places a)))
+    → n ≡ reduced (normal_at entries places (3 * f))
+face-normal entries places f a b c n ea eb ec en = (rw (ea, eb, ec) at en) ∙ ap reduced (sym (normal-first entries places f))
 
 -- the three corners of a face
 pub face-more : (entries : List ℕ) (places : List Place) (sums : List Vector) (f a b c : ℕ) (n x y z : Vector) → AreSums entries places sums (3 * f)

@@ -1,45 +1,19 @@
 -- Lines that are read from the rest of a text, number by number.
-use Rattle.std.proofs.Common.{◌≡◌, ℕ, ◌+◌, ◌-◌, ◌<◌, ◌≤◌, true, List, [], ◌∷◌, ◌++◌, length, take, drop, get_or, Some, refl, sym, ap, subst, ◌∙◌, append_assoc, inl, inr, arith}
+use Rattle.std.proofs.Common.{◌≡◌, ℕ, ◌+◌, ◌-◌, ◌<◌, ◌≤◌, true, List, [], ◌∷◌, ◌++◌, length, take, drop, get_or, Some, refl, ap, ◌∙◌, append_assoc, inl, inr, arith}
 use Rattle.std.specs.Prelude.{ℤ, pos}
 use Rattle.std.proofs.lemmas.Bool.{cases_lt, lt-ltb}
-use Rattle.std.proofs.lemmas.List.{get_or_append_left, get_or_push, length_push, get_or-take, length-take, take_at}
+use Rattle.std.proofs.lemmas.List.{get_or-take, length-take, take_at}
 use Rattle.ply_text.specs.Tokens.{is_blank, tokens_of}
-use Rattle.ply_text.specs.Numbers.{first_integer, is_between}
+use Rattle.attr_heads.specs.declared.bounds.Bounds.{Bounds}
+use Rattle.attr_heads.specs.Bounds.{in_bounds, type_bounds}
+use Rattle.ply_text.specs.Numbers.{first_integer}
 use Rattle.ply_text.specs.InPlace.{IsNumberAt}
 use Rattle.ply_text.proofs.Cutting.{IsPlain, none_plain, cuts_plain}
-use Rattle.ply_text.proofs.InPlace.{between}
 use Rattle.ply_text.proofs.Splitting.{skips_blank, no_token}
-use Rattle.ply_mesh.specs.Body.{IsRange, numbers_of, points_numbered}
-use Rattle.ply_mesh.specs.Ahead.{AreRanges, IsFirstLine, IsRowAhead, IsFaceAhead}
+use Rattle.ply_mesh.specs.Body.{numbers_of, points_numbered}
+use Rattle.ply_mesh.specs.Ahead.{IsFirstLine, IsRowAhead, IsFaceAhead}
 use Rattle.ply_mesh.proofs.FaceSteps.{face_whole}
 use Rattle.ply_mesh.proofs.RowSteps.{IsRowSoFar, row_begun, row_more, row_done, row_undone}
-
--- ---- ranges
-
--- the ranges of the first i data types
-pub record AreRangesSoFar (dtypes : List ℕ) (ranges : List (ℕ × ℕ)) (i : ℕ) : Type 0 where
-  pub each : length ranges ≡ i
-  pub range : (j : ℕ) (d : ℕ × ℕ) → j < i → IsRange (get_or dtypes j 0) (get_or ranges j d).0 (get_or ranges j d).1
-
-pub no_ranges : (dtypes : List ℕ) (ranges : List (ℕ × ℕ)) → length ranges ≡ 0 → AreRangesSoFar dtypes ranges 0
-no_ranges dtypes ranges none = record { each = none; range = λ j d below. absurd (omega arith) }
-
-pub ranges_more : (dtypes : List ℕ) (ranges : List (ℕ × ℕ)) (i : ℕ) (r : ℕ × ℕ) → AreRangesSoFar dtypes ranges i → IsRange (get_or dtypes i 0) r.0 r.1 → AreRangesSoFar dtypes (ranges ++ r ∷ []) (i + 1)
-ranges_more dtypes ranges i r h is = record {
-  each = length_push ranges r ∙ ap (λ n. n + 1) h.each;
-  range = λ j d below. elim (cases_lt j i) [
-    | inl lt ↦
-        let at : get_or ranges j d ≡ get_or (ranges ++ r ∷ []) j d = sym (get_or_append_left ranges (r ∷ []) d j (omega (arith, h.each))) in
-        subst (λ (x : ℕ × ℕ). IsRange (get_or dtypes j 0) x.0 x.1) at (h.range j d lt)
-    | inr le ↦
-        let same : i ≡ j = omega arith in
-        let at : r ≡ get_or (ranges ++ r ∷ []) j d = sym (get_or_push ranges r d j (h.each ∙ same)) in
-        subst (λ (x : ℕ × ℕ). IsRange (get_or dtypes j 0) x.0 x.1) at (subst (λ n. IsRange (get_or dtypes n 0) r.0 r.1) same is)
-  ];
-}
-
-pub ranges_all : (dtypes : List ℕ) (ranges : List (ℕ × ℕ)) (i : ℕ) → length dtypes ≤ i → i ≤ length dtypes → AreRangesSoFar dtypes ranges i → AreRanges dtypes ranges
-ranges_all dtypes ranges i le ge h = record { each = h.each ∙ omega arith; range = λ j d below. h.range j d (omega arith) }
 
 -- ---- a number and the byte behind it
 
@@ -81,54 +55,54 @@ first_line text i j v p n inside lf = record {
 -- ---- rows
 
 -- the numbers so far, whatever line they begin
-pub record IsAhead (dtypes text : List ℕ) (old out : List ℤ) (j at : ℕ) : Type 0 where
+pub record IsAhead (columns : List Bounds) (text : List ℕ) (old out : List ℤ) (j at : ℕ) : Type 0 where
   pub plain : IsPlain text at
   pub within : at ≤ length text
-  pub rows : (e : ℕ) → at ≤ e → e ≤ length text → IsRowSoFar (numbers_of dtypes (tokens_of (take e text))) old out (numbers_of (drop j dtypes) (tokens_of (drop at (take e text))))
+  pub rows : (e : ℕ) → at ≤ e → e ≤ length text → IsRowSoFar (numbers_of columns (tokens_of (take e text))) old out (numbers_of (drop j columns) (tokens_of (drop at (take e text))))
 
-pub ahead_begun : (dtypes text : List ℕ) (old : List ℤ) → IsAhead dtypes text old old 0 0
-ahead_begun dtypes text old = record {
+pub ahead_begun : (columns : List Bounds) (text : List ℕ) (old : List ℤ) → IsAhead columns text old old 0 0
+ahead_begun columns text old = record {
   plain = none_plain text;
   within = omega arith;
-  rows = λ e le most. row_begun (numbers_of dtypes (tokens_of (take e text))) old;
+  rows = λ e le most. row_begun (numbers_of columns (tokens_of (take e text))) old;
 }
 
-pub ahead_more : (dtypes text : List ℕ) (old out : List ℤ) (j at next dtype below most : ℕ) (v : ℤ) → j < length dtypes → dtype ≡ get_or dtypes j 0 → IsRange dtype below most → is_between below most v ≡ true
-    → IsNumberAt text at next v → next < length text → get_or text next 0 ≡ 32 → IsAhead dtypes text old out j at → IsAhead dtypes text old (out ++ v ∷ []) (j + 1) (next + 1)
-ahead_more dtypes text old out j at next dtype below most v lt is range inside n more space h = record {
+pub ahead_more : (columns : List Bounds) (text : List ℕ) (old out : List ℤ) (j at next : ℕ) (bounds d : Bounds) (v : ℤ) → j < length columns → bounds ≡ get_or columns j d → in_bounds bounds v ≡ true
+    → IsNumberAt text at next v → next < length text → get_or text next 0 ≡ 32 → IsAhead columns text old out j at → IsAhead columns text old (out ++ v ∷ []) (j + 1) (next + 1)
+ahead_more columns text old out j at next bounds d v lt is inside n more space h = record {
   plain = plain_on text at next v h.plain n space;
   within = omega arith;
   rows = λ e le top.
-      row_more (numbers_of dtypes (tokens_of (take e text))) old out dtypes (take e text) j at (next + 1) dtype below most v lt is range inside
+      row_more (numbers_of columns (tokens_of (take e text))) old out columns (take e text) j at (next + 1) bounds d v lt is inside
       (spaced_number text at next e v n space (omega arith) top) (h.rows e (omega (arith, n.after)) top);
 }
 
-pub ahead_last : (dtypes text : List ℕ) (old out : List ℤ) (j at next dtype below most : ℕ) (v : ℤ) → j + 1 ≡ length dtypes → dtype ≡ get_or dtypes j 0 → IsRange dtype below most → is_between below most v ≡ true
-    → IsNumberAt text at next v → next < length text → get_or text next 0 ≡ 10 → IsAhead dtypes text old out j at → IsRowAhead dtypes text next old (out ++ v ∷ [])
-ahead_last dtypes text old out j at next dtype below most v last is range inside n more lf h = record {
+pub ahead_last : (columns : List Bounds) (text : List ℕ) (old out : List ℤ) (j at next : ℕ) (bounds d : Bounds) (v : ℤ) → j + 1 ≡ length columns → bounds ≡ get_or columns j d → in_bounds bounds v ≡ true
+    → IsNumberAt text at next v → next < length text → get_or text next 0 ≡ 10 → IsAhead columns text old out j at → IsRowAhead columns text next old (out ++ v ∷ [])
+ahead_last columns text old out j at next bounds d v last is inside n more lf h = record {
   line = first_line text at next v h.plain n more lf;
   row =
-      row_done (numbers_of dtypes (tokens_of (take next text))) old (out ++ v ∷ []) dtypes (tokens_of (drop next (take next text))) (j + 1) (omega arith) (no_more text next)
-      (row_more (numbers_of dtypes (tokens_of (take next text))) old out dtypes (take next text) j at next dtype below most v (omega arith) is range inside
+      row_done (numbers_of columns (tokens_of (take next text))) old (out ++ v ∷ []) columns (tokens_of (drop next (take next text))) (j + 1) (omega arith) (no_more text next)
+      (row_more (numbers_of columns (tokens_of (take next text))) old out columns (take next text) j at next bounds d v (omega arith) is inside
       (last_number text at next v n) (h.rows next (omega (arith, n.after)) n.within));
 }
 
 -- what was there before stands in front
-pub ahead_front : (dtypes text : List ℕ) (old out : List ℤ) (j at : ℕ) → IsAhead dtypes text old out j at → take (length old) out ≡ old
-ahead_front dtypes text old out j at h = row_undone _ _ old out (length old) refl (h.rows at (omega arith) h.within)
+pub ahead_front : (columns : List Bounds) (text : List ℕ) (old out : List ℤ) (j at : ℕ) → IsAhead columns text old out j at → take (length old) out ≡ old
+ahead_front columns text old out j at h = row_undone _ _ old out (length old) refl (h.rows at (omega arith) h.within)
 
 -- and still does after one more number
-pub row_none : (dtypes text : List ℕ) (old out : List ℤ) (j at : ℕ) (v : ℤ) → IsAhead dtypes text old out j at → take (length old) (out ++ v ∷ []) ≡ old
-row_none dtypes text old out j at v h =
+pub row_none : (columns : List Bounds) (text : List ℕ) (old out : List ℤ) (j at : ℕ) (v : ℤ) → IsAhead columns text old out j at → take (length old) (out ++ v ∷ []) ≡ old
+row_none columns text old out j at v h =
     let r = h.rows at (omega arith) h.within in
     ap (λ (xs : List ℤ). take (length old) (xs ++ v ∷ [])) r.out-is ∙ ap (take (length old)) (append_assoc old r.front (v ∷ [])) ∙ take_at old (r.front ++ v ∷ []) (length old) refl
 
 -- ---- faces
 
-pub face_is_ahead : (list : ℕ × ℕ) (points : ℕ) (text : List ℕ) (p0 p1 p2 p3 low high below most a b c : ℕ) → IsRange list.0 low high → IsRange list.1 below most → 3 ≤ high
+pub face_is_ahead : (list : ℕ × ℕ) (points : ℕ) (text : List ℕ) (p0 p1 p2 p3 : ℕ) (counts indices : Bounds) (a b c : ℕ) → counts ≡ type_bounds list.0 → indices ≡ type_bounds list.1 → in_bounds counts (pos 3) ≡ true
     → IsNumberAt text 0 p0 (pos 3) → get_or text p0 0 ≡ 32 → IsNumberAt text (p0 + 1) p1 (pos a) → get_or text p1 0 ≡ 32 → IsNumberAt text (p1 + 1) p2 (pos b) → get_or text p2 0 ≡ 32
-    → IsNumberAt text (p2 + 1) p3 (pos c) → p3 < length text → get_or text p3 0 ≡ 10 → a ≤ most → b ≤ most → c ≤ most → a < points → b < points → c < points → IsFaceAhead list points text p3 (a ∷ b ∷ c ∷ [])
-face_is_ahead list points text p0 p1 p2 p3 low high below most a b c r0 r1 three n0 s0 na sa nb sb nc more lf am bm cm ap' bp cp =
+    → IsNumberAt text (p2 + 1) p3 (pos c) → p3 < length text → get_or text p3 0 ≡ 10 → in_bounds indices (pos a) ≡ true → in_bounds indices (pos b) ≡ true → in_bounds indices (pos c) ≡ true → a < points → b < points → c < points → IsFaceAhead list points text p3 (a ∷ b ∷ c ∷ [])
+face_is_ahead list points text p0 p1 p2 p3 counts indices a b c r0 r1 three n0 s0 na sa nb sb nc more lf am bm cm ap' bp cp =
     let plain0 = plain_on text 0 p0 (pos 3) (none_plain text) n0 s0 in
     let plain1 = plain_on text (p0 + 1) p1 (pos a) plain0 na sa in
     let plain2 = plain_on text (p1 + 1) p2 (pos b) plain1 nb sb in
@@ -139,10 +113,10 @@ face_is_ahead list points text p0 p1 p2 p3 low high below most a b c r0 r1 three
     record {
       line = first_line text (p2 + 1) p3 (pos c) plain2 nc more lf;
       face_is =
-          face_whole list points (take p3 text) (p0 + 1) (p1 + 1) (p2 + 1) p3 low high below most (pos 3) (pos a) (pos b) (pos c) (a ∷ b ∷ c ∷ []) r0 r1 refl
-          (spaced_number text 0 p0 p3 (pos 3) n0 s0 (omega arith) (omega arith)) ((between low high 3).0 three)
-          (spaced_number text (p0 + 1) p1 p3 (pos a) na sa (omega arith) (omega arith)) ((between below most a).0 am)
-          (spaced_number text (p1 + 1) p2 p3 (pos b) nb sb (omega arith) (omega arith)) ((between below most b).0 bm)
-          (last_number text (p2 + 1) p3 (pos c) nc) ((between below most c).0 cm)
+          face_whole list points (take p3 text) (p0 + 1) (p1 + 1) (p2 + 1) p3 counts indices (pos 3) (pos a) (pos b) (pos c) (a ∷ b ∷ c ∷ []) r0 r1 refl
+          (spaced_number text 0 p0 p3 (pos 3) n0 s0 (omega arith) (omega arith)) three
+          (spaced_number text (p0 + 1) p1 p3 (pos a) na sa (omega arith) (omega arith)) am
+          (spaced_number text (p1 + 1) p2 p3 (pos b) nb sb (omega arith) (omega arith)) bm
+          (last_number text (p2 + 1) p3 (pos c) nc) cm
           (no_more text p3) made;
     }

@@ -7,16 +7,17 @@ use Rattle.drc_base.specs.declared.faults.Refusal.TheVariants as refusal
 use Rattle.drc_base.specs.Refusals.{Refuses}
 use Rattle.drc_base.specs.Steps.{◌>>=◌}
 use Rattle.mesh_model.specs.declared.geometries.Geometry.TheVariants.{Mesh, Cloud}
+use Rattle.attr_heads.specs.Head.{row_bounds}
 use Rattle.ply_text.specs.declared.headers.Header.{Header}
 use Rattle.ply_mesh.specs.Body.{row_read, face_of, items_from, ends}
-use Rattle.ply_mesh.specs.Read.{geometry_of_rows, body_of, ply_read}
+use Rattle.ply_mesh.specs.Read.{geometry_of_rows, body_of, ply_read_in}
 use Rattle.std.specs.Str.Lines.{lines}
 use Rattle.std.proofs.lemmas.List.{drop-map}
 use Rattle.ply_text.specs.Tokens.{tokens_of, token_lines}
-use Rattle.ply_text.specs.Header.{header_of}
+use Rattle.ply_text.specs.Header.{header_of_in}
 
 abbrev pub rows_from : Header → List (List (List ℕ)) → Result (List (List ℤ) × List (List (List ℕ))) Fault
-rows_from h lines = items_from (row_read h.types) h.vertices h.body_line lines
+rows_from h lines = items_from (row_read (row_bounds h.heads)) h.vertices h.body_line lines
 
 pub rows_fault : (h : Header) (lines : List (List (List ℕ))) (e : Refusal) → Refuses (rows_from h lines) e → Refuses (body_of h lines) e
 unfolding body_of
@@ -51,13 +52,13 @@ mesh_ends h lines rest more rows faces count some r f = mesh_from h lines rest r
 
 -- ---- the whole text
 
-pub header_fault : (text : List ℕ) (e : Refusal) → Refuses (header_of text) e → Refuses (ply_read text) e
-unfolding ply_read
-header_fault text refusal.Memory r = tt
-header_fault text (refusal.Fault f) r = rw r refl
+pub header_fault : (profile : ℕ) (text : List ℕ) (e : Refusal) → Refuses (header_of_in profile text) e → Refuses (ply_read_in profile text) e
+unfolding ply_read_in
+header_fault profile text refusal.Memory r = tt
+header_fault profile text (refusal.Fault f) r = rw r refl
 
-pub body_is : (text : List ℕ) (h : Header) (left : List (List ℕ)) → header_of text ≡ Ok h → left ≡ drop (h.body_line - 1) (lines text) → body_of h (map tokens_of left) ≡ ply_read text
-unfolding ply_read token_lines
-body_is text h left e l =
+pub body_is : (profile : ℕ) (text : List ℕ) (h : Header) (left : List (List ℕ)) → header_of_in profile text ≡ Ok h → left ≡ drop (h.body_line - 1) (lines text) → body_of h (map tokens_of left) ≡ ply_read_in profile text
+unfolding ply_read_in token_lines
+body_is profile text h left e l =
     let at : map tokens_of left ≡ drop (h.body_line - 1) (map tokens_of (lines text)) = ap (map tokens_of) l ∙ sym (drop-map tokens_of (h.body_line - 1) (lines text)) in
     ap (body_of h) at ∙ sym (ap (λ (x : Result Header Fault). x >>= λ (y : Header). body_of y (drop (y.body_line - 1) (map tokens_of (lines text)))) e)

@@ -1,4 +1,5 @@
-pub mod Types
+pub mod BoundedNumbers
+pub mod RowColumns
 pub mod RowSteps
 pub mod FaceSteps
 pub mod ItemSteps

@@ -7,11 +7,12 @@ use Rattle.std.proofs.lemmas.Bool.{cond_both, and_from, lt-ltb}
 use Rattle.attr_heads.specs.declared.heads.Head.{Head}
 use Rattle.attr_heads.specs.declared.quants.Quant.{Quant}
 use Rattle.attr_heads.specs.Quants.{has_bits}
+use Rattle.attr_heads.specs.Octahedra.{has_square_bits}
 use Rattle.attr_heads.proofs.Passing.{HeadSays}
 use Rattle.ply_mesh.specs.Fields.{HasFields}
 use Rattle.ply_text.specs.PropertyTypes.{type_word}
 use Rattle.ply_text.proofs.PropertyTypes.{written_word}
-use Rattle.ply_mesh.specs.Text.{pattern_text, attr_line, quant_line, quant_lines, head_lines, usage_name, plain_name, name_at, has_usage_names, property_line, component_lines, property_lines, element_line, face_line}
+use Rattle.ply_mesh.specs.Text.{pattern_text, attr_line, quant_line, quant_lines, octa_line, octa_lines, detail_lines, head_lines, usage_name, plain_name, name_at, has_usage_names, property_line, component_lines, property_lines, element_line, face_line}
 use Rattle.ply_mesh.proofs.Lexing.{is_token, are_tokens, are_lines, list_all-append}
 use Rattle.ply_mesh.proofs.NumberTexts.{decimal_token, decimal_above, signed_token, pattern_token, IsSmall}
 use Rattle.std.proofs.lemmas.Bool.{leb-true, and_parts}
@@ -93,11 +94,24 @@ quants_tokens k (Some q) hk b =
     let p = and_parts (leb 1 q.bits) (leb q.bits 30) b in
     and_from _ _ (quant_tokens k q hk (omega (arith, leb-true q.bits 30 p.1))) refl
 
+octa_all : (k bits : ℕ) → k < 2 ^ 32 → bits < 2 ^ 32 → Tokens (octa_line k bits)
+unfolding octa_line
+octa_all k bits hk b =
+    next {t = codes "comment"} refl (next {t = codes "drc"} refl (next {t = codes "octa"} refl (next {t = decimal k} (decimal_token k (omega arith))
+    (next {t = decimal bits} (decimal_token bits (omega arith)) none))))
+
+octas_tokens : (k : ℕ) (o : Option ℕ) → k < 2 ^ 32 → has_square_bits o ≡ true → are_lines (octa_lines k o) ≡ true
+octas_tokens k None hk b = refl
+octas_tokens k (Some bits) hk b =
+    let p = and_parts (leb 2 bits) (leb bits 30) b in
+    and_from _ _ (octa_all k bits hk (omega (arith, leb-true bits 30 p.1))).all refl
+
 pub head_tokens : (k : ℕ) (hs : List Head) → k + length hs < 2 ^ 32 → AllByRecursion HeadSays hs → AllByRecursion HasFields hs → AllByRecursion (λ h. h.dtype < 2 ^ 32) hs → are_lines (head_lines k hs) ≡ true
 head_tokens k [] hk p f d = refl
 head_tokens k (h ∷ hs) hk p f d =
-    list_all-append are_tokens (attr_line k h ∷ quant_lines k h.quant) (head_lines (k + 1) hs)
-    (and_from _ _ (attr_tokens k h (omega arith) p.0 f.0 d.0) (quants_tokens k h.quant (omega arith) p.0.bits))
+    let details = list_all-append are_tokens (quant_lines k h.quant) (octa_lines k h.octa) (quants_tokens k h.quant (omega arith) p.0.bits) (octas_tokens k h.octa (omega arith) p.0.square) in
+    list_all-append are_tokens (attr_line k h ∷ detail_lines k h) (head_lines (k + 1) hs)
+    (and_from _ _ (attr_tokens k h (omega arith) p.0 f.0 d.0) details)
     (head_tokens (k + 1) hs (omega arith) p.1 f.1 d.1)
 
 element_all : (name : List ℕ) (n : ℕ) → Token name → n < 2 ^ 32 → Tokens (element_line name n)

@@ -1,19 +1,18 @@
 -- Rows and faces that are read fit the header.
-use Rattle.std.proofs.Common.{◌≡◌, ℕ, zero, suc, ◌+◌, ◌*◌, ◌<◌, ◌≤◌, Bool, true, false, ◌&&◌, cond, eqb, ltb, List, [], ◌∷◌, ◌++◌, length, get_or, map, All, Option, Some, None, Result, Ok, refl, sym, ap, subst, ◌∙◌, arith}
-use Rattle.std.specs.Prelude.{ℤ, pos, negsuc, int_le, option_and_then, IfSome, replicate}
+use Rattle.std.proofs.Common.{◌≡◌, ℕ, zero, suc, ◌+◌, ◌*◌, ◌<◌, ◌≤◌, Bool, true, false, cond, eqb, ltb, List, [], ◌∷◌, length, get_or, All, Option, Some, None, Result, Ok, refl, sym, ap, subst, ◌∙◌, arith}
+use Rattle.std.specs.Prelude.{ℤ, pos, negsuc, option_and_then, IfSome, replicate}
 use Rattle.std.specs.List.{AllByRecursion}
 use Rattle.std.proofs.lemmas.Bool.{ltb-true}
-use Rattle.std.proofs.lemmas.List.{length-append, length-map, length-replicate, map-append}
+use Rattle.std.proofs.lemmas.List.{length-append, length-replicate}
 use Rattle.std.proofs.lemmas.List.Elements.{All-from_recursion}
 use Rattle.std.proofs.lemmas.List.Sums.{sum_by-cons}
 use Rattle.std.proofs.lemmas.Option.{same_Some}
 use Rattle.drc_base.specs.declared.faults.Fault.{Fault}
 use Rattle.drc_base.specs.declared.kinds.Kind.TheVariants.{PlyRow, PlyNumber, PlyIndex}
 use Rattle.attr_heads.specs.declared.heads.Head.{Head}
-use Rattle.attr_heads.specs.declared.data_types.DataType.{DataType}
-use Rattle.attr_heads.specs.declared.data_types.DataType.TheVariants.{Int8, Uint8, Int16, Uint16, Int32, Uint32, Float32}
-use Rattle.attr_heads.specs.DataTypes.{byte_of, type_of, float_in, least_in, greatest_in, in_type}
-use Rattle.attr_heads.specs.Head.{width_of, types_of}
+use Rattle.attr_heads.specs.declared.bounds.Bounds.{Bounds}
+use Rattle.attr_heads.specs.Bounds.{in_bounds, no_bounds, type_bounds, bounds_of}
+use Rattle.attr_heads.specs.Head.{width_of, row_bounds}
 use Rattle.drc_base.specs.declared.limits.TheConstants.{MAX_VALUES, MAX_FACES}
 use Rattle.drc_base.specs.Steps.{◌>>=◌}
 use Rattle.mesh_model.specs.Parts.{RowFits, IsFaceOf, ArePoints, AreRows, IsMesh, cells_of, cloud_of, mesh_of}
@@ -58,85 +57,60 @@ items_all {A} P item each (suc n) at (line ∷ lines) xs rest e =
 
 -- ---- rows
 
--- a number for each type
-abbrev pub IsTyped : List ℕ → List ℤ → Type 0
+-- a number within the bounds of each column
+abbrev pub IsTyped : List Bounds → List ℤ → Type 0
 IsTyped [] [] = Unit {0}
 IsTyped [] (v ∷ vs) = ⊥
-IsTyped (d ∷ ds) [] = ⊥
-IsTyped (d ∷ ds) (v ∷ vs) = (in_type d v ≡ true) × IsTyped ds vs
+IsTyped (b ∷ bs) [] = ⊥
+IsTyped (b ∷ bs) (v ∷ vs) = (in_bounds b v ≡ true) × IsTyped bs vs
 
-number_typed : (d : ℕ) (token : List ℕ) (v : ℤ) → token_number d token ≡ Some v → in_type d v ≡ true
+number_typed : (b : Bounds) (token : List ℕ) (v : ℤ) → token_number b token ≡ Some v → in_bounds b v ≡ true
 unfolding token_number
-number_typed d token v e = (only_test (in_type d) (integer_of token) v e).0
+number_typed b token v e = (only_test (in_bounds b) (integer_of token) v e).0
 
-pub numbers_typed : (ds : List ℕ) (tokens : List (List ℕ)) (vs : List ℤ) → numbers_of ds tokens ≡ Some vs → IsTyped ds vs
+pub numbers_typed : (bs : List Bounds) (tokens : List (List ℕ)) (vs : List ℤ) → numbers_of bs tokens ≡ Some vs → IsTyped bs vs
 numbers_typed [] [] vs e = subst (IsTyped []) (same_Some [] vs e) tt
 numbers_typed [] (t ∷ ts) vs e = absurd cc
-numbers_typed (d ∷ ds) [] vs e = absurd cc
-numbers_typed (d ∷ ds) (t ∷ ts) vs e =
-    let a = then_some (token_number d t) (λ first. option_and_then (λ others. Some (first ∷ others)) (numbers_of ds ts)) vs e in
-    let b = then_some (numbers_of ds ts) (λ others. Some (a.0 ∷ others)) vs a.2 in
-    subst (IsTyped (d ∷ ds)) (same_Some (a.0 ∷ b.0) vs b.2) (number_typed d t a.0 a.1, numbers_typed ds ts b.0 b.1)
+numbers_typed (b ∷ bs) [] vs e = absurd cc
+numbers_typed (b ∷ bs) (t ∷ ts) vs e =
+    let x = then_some (token_number b t) (λ first. option_and_then (λ others. Some (first ∷ others)) (numbers_of bs ts)) vs e in
+    let y = then_some (numbers_of bs ts) (λ others. Some (x.0 ∷ others)) vs x.2 in
+    subst (IsTyped (b ∷ bs)) (same_Some (x.0 ∷ y.0) vs y.2) (number_typed b t x.0 x.1, numbers_typed bs ts y.0 y.1)
 
-pub row_typed : (ds : List ℕ) (at : ℕ) (line : List (List ℕ)) (row : List ℤ) → row_read ds at line ≡ Ok row → IsTyped ds row
+pub row_typed : (bs : List Bounds) (at : ℕ) (line : List (List ℕ)) (row : List ℤ) → row_read bs at line ≡ Ok row → IsTyped bs row
 unfolding row_read
-row_typed ds at line row e =
-    let t = then_ok (eqb (length line) (length ds)) (or_refuse PlyNumber at (numbers_of ds line)) PlyRow at row e in
-    numbers_typed ds line row (some_ok PlyNumber at (numbers_of ds line) row t.1)
+row_typed bs at line row e =
+    let t = then_ok (eqb (length line) (length bs)) (or_refuse PlyNumber at (numbers_of bs line)) PlyRow at row e in
+    numbers_typed bs line row (some_ok PlyNumber at (numbers_of bs line) row t.1)
 
--- the integers that stand for floats are all those of int32
-column_in : (d : ℕ) (v : ℤ) (t : Option DataType) → type_of d ≡ t → in_type (cond (float_in t) (byte_of Int32) d) v ≡ (int_le (least_in t) v && int_le v (greatest_in t))
-unfolding in_type
-column_in d v None e = ap (λ (o : Option DataType). int_le (least_in o) v && int_le v (greatest_in o)) e
-column_in d v (Some Int8) e = ap (λ (o : Option DataType). int_le (least_in o) v && int_le v (greatest_in o)) e
-column_in d v (Some Uint8) e = ap (λ (o : Option DataType). int_le (least_in o) v && int_le v (greatest_in o)) e
-column_in d v (Some Int16) e = ap (λ (o : Option DataType). int_le (least_in o) v && int_le v (greatest_in o)) e
-column_in d v (Some Uint16) e = ap (λ (o : Option DataType). int_le (least_in o) v && int_le v (greatest_in o)) e
-column_in d v (Some Int32) e = ap (λ (o : Option DataType). int_le (least_in o) v && int_le v (greatest_in o)) e
-column_in d v (Some Uint32) e = ap (λ (o : Option DataType). int_le (least_in o) v && int_le v (greatest_in o)) e
-column_in d v (Some Float32) e = refl
+-- there is a column for each integer of a row
+pub length-row_bounds : (heads : List Head) → length (row_bounds heads) ≡ width_of heads
+length-row_bounds [] = refl
+length-row_bounds (h ∷ hs) =
+    length-append (replicate h.comps (bounds_of h)) (row_bounds hs) ∙ ap (λ n. n + length (row_bounds hs)) (length-replicate h.comps (bounds_of h))
+    ∙ ap (λ n. h.comps + n) (length-row_bounds hs) ∙ sym (sum_by-cons (λ (x : Head). x.comps) h hs)
 
-pub column_same : (d : ℕ) (v : ℤ) → in_type (column_type d) v ≡ in_type d v
-unfolding in_type
-column_same d v = column_in d v (type_of d) refl
-
-typed_columns : (ds : List ℕ) (vs : List ℤ) → IsTyped (map column_type ds) vs → IsTyped ds vs
-typed_columns [] [] h = tt
-typed_columns [] (v ∷ vs) h = absurd h
-typed_columns (d ∷ ds) [] h = absurd h
-typed_columns (d ∷ ds) (v ∷ vs) h = (sym (column_same d v) ∙ h.0, typed_columns ds vs h.1)
-
-map-replicate : (n d : ℕ) → replicate n (column_type d) ≡ map column_type (replicate n d)
-map-replicate zero d = refl
-map-replicate (suc n) d = ap (λ (ds : List ℕ). column_type d ∷ ds) (map-replicate n d)
-
--- the columns of heads that are read
-pub columns_are : (heads : List Head) → column_types heads ≡ map column_type (types_of heads)
+-- and a property
+pub length-column_types : (heads : List Head) → length (column_types heads) ≡ width_of heads
 unfolding column_types
-columns_are [] = refl
-columns_are (h ∷ hs) =
-    ap (λ (ds : List ℕ). ds ++ column_types hs) (map-replicate h.comps h.dtype) ∙ ap (λ (ds : List ℕ). map column_type (replicate h.comps h.dtype) ++ ds) (columns_are hs)
-    ∙ sym (map-append column_type (replicate h.comps h.dtype) (types_of hs))
+length-column_types [] = refl
+length-column_types (h ∷ hs) =
+    length-append (replicate h.comps (column_type h.dtype)) (column_types hs) ∙ ap (λ n. n + length (column_types hs)) (length-replicate h.comps (column_type h.dtype))
+    ∙ ap (λ n. h.comps + n) (length-column_types hs) ∙ sym (sum_by-cons (λ (x : Head). x.comps) h hs)
 
-pub length-types_of : (heads : List Head) → length (types_of heads) ≡ width_of heads
-length-types_of [] = refl
-length-types_of (h ∷ hs) =
-    length-append (replicate h.comps h.dtype) (types_of hs) ∙ ap (λ n. n + length (types_of hs)) (length-replicate h.comps h.dtype) ∙ ap (λ n. h.comps + n) (length-types_of hs)
-    ∙ sym (sum_by-cons (λ (x : Head). x.comps) h hs)
-
-typed_at : (ds : List ℕ) (vs : List ℤ) → IsTyped ds vs → (length vs ≡ length ds) × ((j : ℕ) → j < length ds → in_type (get_or ds j 0) (get_or vs j (pos 0)) ≡ true)
+typed_at : (bs : List Bounds) (vs : List ℤ) → IsTyped bs vs → (length vs ≡ length bs) × ((j : ℕ) → j < length bs → in_bounds (get_or bs j no_bounds) (get_or vs j (pos 0)) ≡ true)
 typed_at [] [] h = (refl, λ j lt. absurd (omega arith))
 typed_at [] (v ∷ vs) h = absurd h
-typed_at (d ∷ ds) [] h = absurd h
-typed_at (d ∷ ds) (v ∷ vs) h = let t = typed_at ds vs h.1 in (ap suc t.0, at t) where
-  at : (length vs ≡ length ds) × ((j : ℕ) → j < length ds → in_type (get_or ds j 0) (get_or vs j (pos 0)) ≡ true) → (j : ℕ) → j < suc (length ds) → in_type (get_or (d ∷ ds) j 0) (get_or (v ∷ vs) j (pos 0)) ≡ true
+typed_at (b ∷ bs) [] h = absurd h
+typed_at (b ∷ bs) (v ∷ vs) h = let t = typed_at bs vs h.1 in (ap suc t.0, at t) where
+  at : (length vs ≡ length bs) × ((j : ℕ) → j < length bs → in_bounds (get_or bs j no_bounds) (get_or vs j (pos 0)) ≡ true) → (j : ℕ) → j < suc (length bs) → in_bounds (get_or (b ∷ bs) j no_bounds) (get_or (v ∷ vs) j (pos 0)) ≡ true
   at t zero lt = h.0
   at t (suc j) lt = t.1 j (omega arith)
 
-pub row_fits : (heads : List Head) (types : List ℕ) (row : List ℤ) → column_types heads ≡ types → IsTyped types row → RowFits heads row
-row_fits heads types row e h =
-    let t = typed_at (types_of heads) row (typed_columns (types_of heads) row (subst (λ (ds : List ℕ). IsTyped ds row) (sym e ∙ columns_are heads) h)) in
-    let n = length-types_of heads in
+pub row_fits : (heads : List Head) (row : List ℤ) → IsTyped (row_bounds heads) row → RowFits heads row
+row_fits heads row h =
+    let t = typed_at (row_bounds heads) row h in
+    let n = length-row_bounds heads in
     (t.0 ∙ n, λ j lt. t.1 j (omega arith))
 
 -- ---- faces
@@ -161,38 +135,38 @@ unfolding face_of indices_of
 face_fits list points at [] face e = absurd cc
 face_fits list points at (count ∷ tokens) face e =
     let a = bind_ok (face_count_read list.0 at count) (λ _. indices_of list.1 points at tokens) face e in
-    let ds = list.1 ∷ list.1 ∷ list.1 ∷ [] in
-    let t = then_ok (eqb (length tokens) 3) (or_refuse PlyNumber at (numbers_of ds tokens) >>= λ values. or_refuse PlyIndex at (points_numbered points values)) PlyRow at face a.2 in
-    let b = bind_ok (or_refuse PlyNumber at (numbers_of ds tokens)) (λ values. or_refuse PlyIndex at (points_numbered points values)) face t.1 in
-    let vs = numbers_typed ds tokens b.0 (some_ok PlyNumber at (numbers_of ds tokens) b.0 b.1) in
-    let n : length b.0 ≡ 3 = (typed_at ds b.0 vs).0 in
+    let bs = type_bounds list.1 ∷ type_bounds list.1 ∷ type_bounds list.1 ∷ [] in
+    let t = then_ok (eqb (length tokens) 3) (or_refuse PlyNumber at (numbers_of bs tokens) >>= λ values. or_refuse PlyIndex at (points_numbered points values)) PlyRow at face a.2 in
+    let b = bind_ok (or_refuse PlyNumber at (numbers_of bs tokens)) (λ values. or_refuse PlyIndex at (points_numbered points values)) face t.1 in
+    let vs = numbers_typed bs tokens b.0 (some_ok PlyNumber at (numbers_of bs tokens) b.0 b.1) in
+    let n : length b.0 ≡ 3 = (typed_at bs b.0 vs).0 in
     let r = points_inside points b.0 face (some_ok PlyIndex at (points_numbered points b.0) face b.2) in
     (r.0 ∙ n, All-from_recursion (λ p. p < points) face r.1)
 
 -- ---- geometries
 
-pub points_fit : (h : Header) → IsHeader h → (lines rest : List (List (List ℕ))) (rows : List (List ℤ)) → items_from (row_read h.types) h.vertices h.body_line lines ≡ Ok (rows, rest) → ArePoints h.heads rows × (length rows ≡ h.vertices)
+pub points_fit : (h : Header) → IsHeader h → (lines rest : List (List (List ℕ))) (rows : List (List ℤ)) → items_from (row_read (row_bounds h.heads)) h.vertices h.body_line lines ≡ Ok (rows, rest) → ArePoints h.heads rows × (length rows ≡ h.vertices)
 points_fit h is lines rest rows e =
-    let n = items_count (row_read h.types) h.vertices h.body_line lines rows rest e in
-    let typed = items_all (IsTyped h.types) (row_read h.types) (λ at line row r. row_typed h.types at line row r) h.vertices h.body_line lines rows rest e in
-    let columns : length h.types ≡ width_of h.heads = ap length (sym is.types) ∙ ap length (columns_are h.heads) ∙ length-map (types_of h.heads) column_type ∙ length-types_of h.heads in (
+    let n = items_count (row_read (row_bounds h.heads)) h.vertices h.body_line lines rows rest e in
+    let typed = items_all (IsTyped (row_bounds h.heads)) (row_read (row_bounds h.heads)) (λ at line row r. row_typed (row_bounds h.heads) at line row r) h.vertices h.body_line lines rows rest e in
+    let columns : length h.types ≡ width_of h.heads = ap length (sym is.types) ∙ length-column_types h.heads in (
       record {
         heads_pass = is.heads;
         few_points = omega (arith, n, is.vertices);
         few_values = subst (λ k. k * width_of h.heads ≤ MAX_VALUES) (sym n) (subst (λ w. h.vertices * w ≤ MAX_VALUES) columns is.values);
-        rows_fit = λ k d lt. row_fits h.heads h.types (get_or rows k d) is.types (All-from_recursion (IsTyped h.types) rows typed k d lt);
+        rows_fit = λ k d lt. row_fits h.heads (get_or rows k d) (All-from_recursion (IsTyped (row_bounds h.heads)) rows typed k d lt);
       },
       n,
     )
 
-pub cloud_fits : (h : Header) → IsHeader h → (lines rest : List (List (List ℕ))) (rows : List (List ℤ)) (heads : List Head) (cells : List ℤ) → heads ≡ h.heads → cells ≡ cells_of rows → items_from (row_read h.types) h.vertices h.body_line lines ≡ Ok (rows, rest)
+pub cloud_fits : (h : Header) → IsHeader h → (lines rest : List (List (List ℕ))) (rows : List (List ℤ)) (heads : List Head) (cells : List ℤ) → heads ≡ h.heads → cells ≡ cells_of rows → items_from (row_read (row_bounds h.heads)) h.vertices h.body_line lines ≡ Ok (rows, rest)
     → AreRows heads cells × (cloud_of heads cells ≡ Ok (record { heads = heads; points = rows }))
 cloud_fits h is lines rest rows heads cells he ce e =
     let p = points_fit h is lines rest rows e in
     let are : ArePoints heads rows = subst (λ (hs : List Head). ArePoints hs rows) (sym he) p.0 in
     rw ce (AreRows-cells_of heads rows are, cloud_of-IsCloud (record { heads = heads; points = rows }) are)
 
-pub mesh_fits : (h : Header) (list : ℕ × ℕ) (count at : ℕ) → IsHeader h → (lines rest more : List (List (List ℕ))) (rows : List (List ℤ)) (faces : List (List ℕ)) (heads : List Head) (cells : List ℤ) → heads ≡ h.heads → cells ≡ cells_of rows → items_from (row_read h.types) h.vertices h.body_line lines ≡ Ok (rows, rest)
+pub mesh_fits : (h : Header) (list : ℕ × ℕ) (count at : ℕ) → IsHeader h → (lines rest more : List (List (List ℕ))) (rows : List (List ℤ)) (faces : List (List ℕ)) (heads : List Head) (cells : List ℤ) → heads ≡ h.heads → cells ≡ cells_of rows → items_from (row_read (row_bounds h.heads)) h.vertices h.body_line lines ≡ Ok (rows, rest)
     → h.faces ≡ Some count → items_from (face_of list h.vertices) count at rest ≡ Ok (faces, more)
     → AreRows heads cells × (mesh_of heads cells faces ≡ Ok (record { heads = heads; points = rows; faces = faces }))
 mesh_fits h list count at is lines rest more rows faces heads cells he ce e fe fs =

@@ -1,39 +1,33 @@
 -- The rows and faces of a PLY text (PLY 1.0, in this project's profile).
 use Rattle.std.specs.Prelude.{ℕ, ◌≡◌, zero, suc, ◌+◌, ◌++◌, List, [], ◌∷◌, length, map, Option, None, Some, option_and_then, ℤ}
-use Rattle.std.specs.Prelude.{pos, negsuc, neg_ℤ, ◌^◌, ◌<◌, ◌≤◌, Result, Ok, nat_lt, ◌==◌, if◌then◌else◌}
+use Rattle.std.specs.Prelude.{pos, negsuc, Result, Ok, nat_lt, replicate, ◌==◌, if◌then◌else◌}
 use Rattle.std.specs.Borrow.{Bor}
 use Rattle.std.specs.Ordering.{int_eq}
 use Rattle.drc_base.specs.declared.faults.Fault.{Fault}
 use Rattle.drc_base.specs.declared.kinds.Kind.TheVariants.{PlyRow, PlyNumber, PlyFace, PlyIndex, PlyShort, PlyRest}
 use Rattle.drc_base.specs.Steps.{◌>>=◌}
-use Rattle.attr_heads.specs.DataTypes.{least_of, greatest_of, in_type}
+use Rattle.attr_heads.specs.declared.bounds.Bounds.{Bounds}
+use Rattle.attr_heads.specs.Bounds.{in_bounds, type_bounds}
 use Rattle.mesh_model.specs.Parts.{cells_of}
 use Rattle.ply_text.specs.Faults.{refuse, or_refuse}
 use Rattle.ply_text.specs.Numbers.{integer_of, only_if}
 
--- the least and the greatest number of a data type: how far they lie below and above 0
-pub record IsRange (dtype below most : ℕ) : Type 0 where
-  pub least : least_of dtype ≡ neg_ℤ (pos below)
-  pub greatest : greatest_of dtype ≡ pos most
-  pub few : below ≤ 2 ^ 31
-  pub small : most < 2 ^ 31
+-- the number of a token, if it lies within bounds
+unfoldable pub token_number : Bounds → List ℕ → Option ℤ
+token_number bounds token = only_if (in_bounds bounds) (integer_of token)
 
--- the number of a token, if it is in the range of a data type
-unfoldable pub token_number : ℕ → List ℕ → Option ℤ
-token_number dtype token = only_if (in_type dtype) (integer_of token)
-
--- the numbers of tokens, one for each data type
-abbrev pub numbers_of : List ℕ → List (List ℕ) → Option (List ℤ)
+-- the numbers of tokens, one for each column, which has these bounds
+abbrev pub numbers_of : List Bounds → List (List ℕ) → Option (List ℤ)
 numbers_of [] [] = Some []
 numbers_of [] (token ∷ tokens) = None
-numbers_of (dtype ∷ dtypes) [] = None
-numbers_of (dtype ∷ dtypes) (token ∷ tokens) =
-    option_and_then (λ first. option_and_then (λ others. Some (first ∷ others)) (numbers_of dtypes tokens)) (token_number dtype token)
+numbers_of (bounds ∷ columns) [] = None
+numbers_of (bounds ∷ columns) (token ∷ tokens) =
+    option_and_then (λ first. option_and_then (λ others. Some (first ∷ others)) (numbers_of columns tokens)) (token_number bounds token)
 
--- a point: one number for each property
-unfoldable pub row_read : List ℕ → ℕ → List (List ℕ) → Result (List ℤ) Fault
-row_read dtypes at tokens =
-    if length tokens == length dtypes then or_refuse PlyNumber at (numbers_of dtypes tokens) else refuse PlyRow at
+-- a point: one number for each column
+unfoldable pub row_read : List Bounds → ℕ → List (List ℕ) → Result (List ℤ) Fault
+row_read columns at tokens =
+    if length tokens == length columns then or_refuse PlyNumber at (numbers_of columns tokens) else refuse PlyRow at
 
 -- the number of a point
 abbrev pub point_numbered : ℕ → ℤ → Option ℕ
@@ -50,14 +44,14 @@ points_numbered points (v ∷ vs) =
 unfoldable pub indices_of : ℕ → ℕ → ℕ → List (List ℕ) → Result (List ℕ) Fault
 indices_of itype points at tokens =
     if length tokens == 3
-    then (or_refuse PlyNumber at (numbers_of (itype ∷ itype ∷ itype ∷ []) tokens)
+    then (or_refuse PlyNumber at (numbers_of (replicate 3 (type_bounds itype)) tokens)
     >>= λ values. or_refuse PlyIndex at (points_numbered points values))
     else refuse PlyRow at
 
 -- the count of a face, which is 3
 abbrev pub face_count_read : ℕ → ℕ → List ℕ → Result ℤ Fault
 face_count_read ctype at token = do
-  n ← or_refuse PlyNumber at (token_number ctype token)
+  n ← or_refuse PlyNumber at (token_number (type_bounds ctype) token)
   if int_eq n (pos 3) then Ok n else refuse PlyFace at
 
 -- a face behind its count

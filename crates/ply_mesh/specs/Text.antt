@@ -1,7 +1,7 @@
 -- The PLY text of a geometry, line by line and token by token (PLY 1.0; the comment lines, the order of
 -- the lines and the names are this project's choice).
 use Rattle.std.specs.Prelude.{ℕ, zero, suc, ◌+◌, ◌/◌, ◌%◌, ◌&&◌, ◌||◌, Bool, not, List, [], ◌∷◌, ◌++◌, length, map, take}
-use Rattle.std.specs.Prelude.{flat_map, Option, None, Some, ℤ, codes, nat_lt, ◌==◌, if◌then◌else◌}
+use Rattle.std.specs.Prelude.{flat_map, Option, None, Some, is_none, ℤ, codes, nat_lt, ◌==◌, if◌then◌else◌}
 use Rattle.std.specs.List.{list_any}
 use Rattle.std.specs.Fmt.{decimal, signed_decimal}
 use Rattle.attr_heads.specs.declared.quants.Quant.{Quant}
@@ -59,19 +59,32 @@ abbrev pub quant_lines : ℕ → Option Quant → List (List (List ℕ))
 quant_lines k None = []
 quant_lines k (Some q) = quant_line k q ∷ []
 
+-- `comment drc octa k bits`
+unfoldable pub octa_line : ℕ → ℕ → List (List ℕ)
+octa_line k bits = codes "comment" ∷ codes "drc" ∷ codes "octa" ∷ decimal k ∷ decimal bits ∷ []
+
+abbrev pub octa_lines : ℕ → Option ℕ → List (List (List ℕ))
+octa_lines k None = []
+octa_lines k (Some bits) = octa_line k bits ∷ []
+
+-- the line that says more of head k, where it has a quantisation or a square
+abbrev pub detail_lines : ℕ → Head → List (List (List ℕ))
+detail_lines k h = quant_lines k h.quant ++ octa_lines k h.octa
+
 -- the lines of heads from number k on
 abbrev pub head_lines : ℕ → List Head → List (List (List ℕ))
 head_lines k [] = []
-head_lines k (h ∷ hs) = (attr_line k h ∷ quant_lines k h.quant) ++ head_lines (k + 1) hs
+head_lines k (h ∷ hs) = (attr_line k h ∷ detail_lines k h) ++ head_lines (k + 1) hs
 
 -- ---- properties
 
 -- a head that may have names of its usage: a position or a normal of three components, a colour of three or four,
--- a texture coordinate of two
+-- a texture coordinate of two; never one with a square
 abbrev pub may_be_named : Head → Bool
 may_be_named h =
-    ((h.usage == POSITION || h.usage == NORMAL) && h.comps == 3)
-    || (h.usage == COLOUR && (h.comps == 3 || h.comps == 4)) || (h.usage == TEXTURE_COORDINATE && h.comps == 2)
+    is_none h.octa
+    && (((h.usage == POSITION || h.usage == NORMAL) && h.comps == 3)
+    || (h.usage == COLOUR && (h.comps == 3 || h.comps == 4)) || (h.usage == TEXTURE_COORDINATE && h.comps == 2))
 
 -- such a head of this usage
 abbrev pub takes_names : ℕ → Head → Bool

@@ -4,14 +4,15 @@ ghost use Rattle.std.specs.Prelude.{◌≡◌, ◌+◌, ◌*◌, ◌<◌, ◌≤
 ghost use Rattle.drc_base.specs.Refusals.{Answers, Refuses};
 ghost use Rattle.mesh_model.specs.declared.geometries.Geometry.{Geometry as GeometryValue};
 ghost use Rattle.ply_text.specs.Tokens.{tokens_of};
-ghost use Rattle.ply_mesh.specs.Ahead.{AreRanges, TakesRow, TakesFace};
-ghost use Rattle.ply_mesh.specs.Body.{IsRange, row_read, face_of, items_from, ends, AreRowsRead};
+ghost use Rattle.attr_heads.specs.Bounds.{type_bounds};
+ghost use Rattle.ply_mesh.specs.Ahead.{TakesRow, TakesFace};
+ghost use Rattle.ply_mesh.specs.Body.{row_read, face_of, items_from, ends, AreRowsRead};
 
 use crate::face_lines::read_face;
 use crate::faces_ahead::face_ahead;
-use crate::numbers::range_of;
 use crate::rows::read_row;
-use crate::rows_ahead::{ranges_of, row_ahead};
+use crate::rows_ahead::row_ahead;
+use attr_heads::Bounds;
 use drc_base::{Fault, Kind, Refusal};
 use ply_text::{Lines, is_at_end};
 use std::alloc::Global;
@@ -31,26 +32,24 @@ pub(crate) fn skip_lines(lines: &mut Lines<'_>, count: u64)
 fn take_row<'a>(
     alloc: Global,
     lines: &mut Lines<'a>,
-    dtypes: &[u8],
-    ranges: &[(u32, u32)],
+    columns: &[Bounds],
     at: u64,
     out: &mut Vec<i32>,
 ) -> Result<(), Refusal>
-    requires { AreRanges dtypes.now ranges.now }
     ensures fewer { length lines.new ≤ length lines.old }
     ensures row { MatchResult result
-        (λ _. TakesRow dtypes.now at lines.old lines.new out.old.items out.new.items)
-        (λ e. Refuses (items_from (row_read dtypes.now) 1 at (map tokens_of lines.old)) e) }
+        (λ _. TakesRow columns.now at lines.old lines.new out.old.items out.new.items)
+        (λ e. Refuses (items_from (row_read columns.now) 1 at (map tokens_of lines.old)) e) }
 {
     let text = lines.rest();
-    if let Some(end) = row_ahead(dtypes, ranges, text, out)? {
+    if let Some(end) = row_ahead(columns, text, out)? {
         *lines = Lines::new(&text[end + 1..]);
         return Ok(());
     }
     let Some(line) = lines.next() else {
         return Err(Refusal::Fault(Fault::new(Kind::PlyShort, at)));
     };
-    read_row(alloc, dtypes, at, line, out)
+    read_row(alloc, columns, at, line, out)
 }
 
 /// The numbers of `count` lines of points from line number `at` on, row after row, in room for `room`
@@ -58,7 +57,7 @@ fn take_row<'a>(
 pub(crate) fn read_rows(
     alloc: Global,
     lines: &mut Lines<'_>,
-    dtypes: &[u8],
+    columns: &[Bounds],
     count: u32,
     at: u64,
     room: usize,
@@ -66,32 +65,31 @@ pub(crate) fn read_rows(
     requires { at + count < 2 ^ 64 }
     ensures fewer { length lines.new ≤ length lines.old }
     ensures rows { MatchResult result
-        (λ cells. AreRowsRead (items_from (row_read dtypes.now) count at (map tokens_of lines.old)) cells.items (map tokens_of lines.new))
-        (λ e. Refuses (items_from (row_read dtypes.now) count at (map tokens_of lines.old)) e) }
+        (λ cells. AreRowsRead (items_from (row_read columns.now) count at (map tokens_of lines.old)) cells.items (map tokens_of lines.new))
+        (λ e. Refuses (items_from (row_read columns.now) count at (map tokens_of lines.old)) e) }
 {
-    let ranges = ranges_of(alloc, dtypes)?;
     let mut cells = Vec::with_capacity(alloc, room)?;
     for i in 0..count {
         let number = at + i as u64;
-        take_row(alloc, lines, dtypes, ranges.as_slice(), number, &mut cells)?;
+        take_row(alloc, lines, columns, number, &mut cells)?;
     }
     Ok(cells)
 }
 
-/// Takes the first line off, and answers the face that it is; `counts` and `indices` are the ranges of the
+/// Takes the first line off, and answers the face that it is; `counts` and `indices` are the bounds of the
 /// types of `list`. PlyShort where no line is left, else as `read_face`.
 #[tactic(auto, using(crate::proofs::ItemSteps::shorter))]
 fn take_face<'a>(
     alloc: Global,
     lines: &mut Lines<'a>,
     list: (u8, u8),
-    counts: (u32, u32),
-    indices: (u32, u32),
+    counts: Bounds,
+    indices: Bounds,
     points: u32,
     at: u64,
 ) -> Result<[u32; 3], Refusal>
-    requires counts { IsRange list.0 counts.0 counts.1 }
-    requires indices { IsRange list.1 indices.0 indices.1 }
+    requires counts { counts ≡ type_bounds list.0 }
+    requires indices { indices ≡ type_bounds list.1 }
     ensures fewer { length lines.new ≤ length lines.old }
     ensures face { MatchResult result
         (λ face. TakesFace list points at lines.old lines.new face)
@@ -124,8 +122,8 @@ pub(crate) fn read_faces(
         (λ faces. items_from (face_of list points) count at (map tokens_of lines.old) ≡ Ok (faces.items, map tokens_of lines.new))
         (λ e. Refuses (items_from (face_of list points) count at (map tokens_of lines.old)) e) }
 {
-    let counts = range_of(list.0);
-    let indices = range_of(list.1);
+    let counts = Bounds::of_type(list.0);
+    let indices = Bounds::of_type(list.1);
     let mut faces = Vec::with_capacity(alloc, room)?;
     for i in 0..count {
         let number = at + i as u64;

@@ -5,9 +5,10 @@ ghost use Rattle.drc_base.specs.Refusals.{Answers};
 ghost use Rattle.ply_text.specs.Tokens.{tokens_of};
 ghost use Rattle.ply_mesh.specs.Body.{point_numbered, points_numbered, indices_of, counted_face, face_of, texts};
 
-use crate::numbers::{number_of, range_of};
+use crate::numbers::{number_at, number_of};
+use attr_heads::Bounds;
 use drc_base::{Fault, Kind, Refusal};
-use ply_text::{first_tokens, int_at, is_at_end};
+use ply_text::{first_tokens, is_at_end};
 use std::alloc::Global;
 
 /// The number of a point.
@@ -35,15 +36,15 @@ fn points_of(points: u32, a: i32, b: i32, c: i32) -> Option<[u32; 3]>
 fn face_in_place(list: (u8, u8), points: u32, line: &[u8]) -> Option<[u32; 3]>
     ensures { IfSome result (λ face. (at : ℕ) → face_of list points at (tokens_of line.now) ≡ Ok face) }
 {
-    let counts = range_of(list.0);
-    let indices = range_of(list.1);
-    let count = int_at(line, 0, counts.0, counts.1)?;
+    let counts = Bounds::of_type(list.0);
+    let indices = Bounds::of_type(list.1);
+    let count = number_at(line, 0, counts)?;
     if count.0 != 3 {
         return None;
     }
-    let a = int_at(line, count.1, indices.0, indices.1)?;
-    let b = int_at(line, a.1, indices.0, indices.1)?;
-    let c = int_at(line, b.1, indices.0, indices.1)?;
+    let a = number_at(line, count.1, indices)?;
+    let b = number_at(line, a.1, indices)?;
+    let c = number_at(line, b.1, indices)?;
     if !is_at_end(line, c.1) {
         return None;
     }
@@ -66,13 +67,14 @@ fn indices_of(
 ) -> Result<[u32; 3], Refusal>
     ensures { Answers (λ face. face) (indices_of itype points at (first.now ∷ second.now ∷ third.now ∷ [])) result }
 {
-    let Some(a) = number_of(itype, first) else {
+    let bounds = Bounds::of_type(itype);
+    let Some(a) = number_of(bounds, first) else {
         return Err(Refusal::Fault(Fault::new(Kind::PlyNumber, at)));
     };
-    let Some(b) = number_of(itype, second) else {
+    let Some(b) = number_of(bounds, second) else {
         return Err(Refusal::Fault(Fault::new(Kind::PlyNumber, at)));
     };
-    let Some(c) = number_of(itype, third) else {
+    let Some(c) = number_of(bounds, third) else {
         return Err(Refusal::Fault(Fault::new(Kind::PlyNumber, at)));
     };
     match points_of(points, a, b, c) {
@@ -103,7 +105,7 @@ fn counted_face(
 ) -> Result<[u32; 3], Refusal>
     ensures { Answers (λ face. face) (counted_face list points at count.now (texts rest.now)) result }
 {
-    let Some(n) = number_of(list.0, count) else {
+    let Some(n) = number_of(Bounds::of_type(list.0), count) else {
         return Err(Refusal::Fault(Fault::new(Kind::PlyNumber, at)));
     };
     if n != 3 {

@@ -1,10 +1,10 @@
 //! The comment lines of heads.
 
-ghost use Rattle.std.specs.Prelude.{◌≡◌, ◌+◌, ◌<◌, ◌≤◌, ◌^◌, ◌++◌, ◌∷◌, length, drop, map, OnOk, All};
+ghost use Rattle.std.specs.Prelude.{◌≡◌, ◌+◌, ◌<◌, ◌≤◌, ◌^◌, ◌++◌, ◌∷◌, length, drop, map, OnOk, IfSome, All};
 ghost use Rattle.std.specs.Fmt.{decimal};
 ghost use Rattle.attr_heads.specs.Head.{width_of};
 ghost use Rattle.ply_mesh.specs.Fields.{QuantFields, HasFields};
-ghost use Rattle.ply_mesh.specs.Text.{spaced, line_text, text_of, hex_digit, pattern_text, attr_line, quant_line, quant_lines, head_lines};
+ghost use Rattle.ply_mesh.specs.Text.{spaced, line_text, text_of, hex_digit, pattern_text, attr_line, quant_line, quant_lines, octa_line, octa_lines, detail_lines, head_lines};
 
 use attr_heads::{Head, Quant};
 use decimal_text::append_spaced;
@@ -85,16 +85,46 @@ fn put_quant(out: &mut Vec<u8>, k: u32, quant: &Quant) -> Result<(), Memory>
     Ok(())
 }
 
-/// Appends the lines of head `k`.
-fn put_head(out: &mut Vec<u8>, k: u32, head: &Head) -> Result<(), Memory>
-    ensures text { OnOk result (out.new.items ≡ out.old.items ++ text_of (attr_line k head.now ∷ quant_lines k head.now.quant)) }
-    ensures fields { OnOk result (HasFields head.now) }
+/// Appends the line of the quantisation of head `k`, where it has one.
+fn put_quants(out: &mut Vec<u8>, k: u32, quant: &Option<Quant>) -> Result<(), Memory>
+    ensures text { OnOk result (out.new.items ≡ out.old.items ++ text_of (quant_lines k quant.now)) }
+    ensures fields { OnOk result (IfSome quant.now QuantFields) }
 {
-    put_attr(out, k, head)?;
-    match &head.quant {
+    match quant {
         None => Ok(()),
         Some(quant) => put_quant(out, k, quant),
     }
+}
+
+/// Appends the line of the square of head `k`.
+fn put_octa(out: &mut Vec<u8>, k: u32, bits: u8) -> Result<(), Memory>
+    ensures { OnOk result (out.new.items ≡ out.old.items ++ line_text (octa_line k bits)) }
+{
+    out.extend_from_slice(b"comment drc octa")?;
+    append_spaced(out, k as u64)?;
+    append_spaced(out, bits as u64)?;
+    out.push(b'\n')?;
+    Ok(())
+}
+
+/// Appends the line of the square of head `k`, where it has one.
+fn put_octas(out: &mut Vec<u8>, k: u32, octa: Option<u8>) -> Result<(), Memory>
+    ensures { OnOk result (out.new.items ≡ out.old.items ++ text_of (octa_lines k octa)) }
+{
+    match octa {
+        None => Ok(()),
+        Some(bits) => put_octa(out, k, bits),
+    }
+}
+
+/// Appends the lines of head `k`.
+fn put_head(out: &mut Vec<u8>, k: u32, head: &Head) -> Result<(), Memory>
+    ensures text { OnOk result (out.new.items ≡ out.old.items ++ text_of (attr_line k head.now ∷ detail_lines k head.now)) }
+    ensures fields { OnOk result (HasFields head.now) }
+{
+    put_attr(out, k, head)?;
+    put_quants(out, k, &head.quant)?;
+    put_octas(out, k, head.octa)
 }
 
 /// Appends the lines of the heads.

@@ -1,9 +1,9 @@
 //! The header of a text.
 
-ghost use Rattle.std.specs.Prelude.{◌≡◌, ◌≤◌, ◌++◌, All, Ok, length, codes, OnOk, IfOk};
+ghost use Rattle.std.specs.Prelude.{◌≡◌, ◌≤◌, ◌++◌, All, length, codes, OnOk, IfOk};
 ghost use Rattle.mesh_model.specs.declared.geometries.Geometry.TheVariants as geometry;
 ghost use Rattle.ply_mesh.specs.Fields.{HasFields};
-ghost use Rattle.ply_mesh.specs.Read.{ply_read};
+ghost use Rattle.ply_mesh.specs.RoundTripLaw.{IsReadAgain};
 ghost use Rattle.ply_mesh.specs.Text.{line_text, text_of, element_line, first_lines, points_header, faces_header, last_line, list_line, ply_text};
 ghost use Rattle.ply_mesh.specs.Printing.{header_lines};
 
@@ -76,7 +76,7 @@ fn put_last(out: &mut Vec<u8>) -> Result<(), Memory>
 /// The header of the text of a mesh.
 fn mesh_header(alloc: Global, mesh: &CornerMesh) -> Result<Vec<u8>, Memory>
     ensures text { IfOk result (λ text. text.items ≡ text_of (header_lines (geometry.Mesh mesh.now))) }
-    ensures again { IfOk result (λ _. ply_read (ply_text (geometry.Mesh mesh.now)) ≡ Ok (geometry.Mesh mesh.now)) }
+    ensures again { IfOk result (λ _. IsReadAgain (ply_text (geometry.Mesh mesh.now)) (geometry.Mesh mesh.now)) }
 {
     let mut out = Vec::new(alloc);
     put_points_header(&mut out, mesh.heads(), mesh.point_count())?;
@@ -88,7 +88,7 @@ fn mesh_header(alloc: Global, mesh: &CornerMesh) -> Result<Vec<u8>, Memory>
 /// The header of the text of a cloud.
 fn cloud_header(alloc: Global, cloud: &Cloud) -> Result<Vec<u8>, Memory>
     ensures text { IfOk result (λ text. text.items ≡ text_of (header_lines (geometry.Cloud cloud.now))) }
-    ensures again { IfOk result (λ _. ply_read (ply_text (geometry.Cloud cloud.now)) ≡ Ok (geometry.Cloud cloud.now)) }
+    ensures again { IfOk result (λ _. IsReadAgain (ply_text (geometry.Cloud cloud.now)) (geometry.Cloud cloud.now)) }
 {
     let mut out = Vec::new(alloc);
     put_points_header(&mut out, cloud.heads(), cloud.point_count())?;
@@ -97,10 +97,10 @@ fn cloud_header(alloc: Global, cloud: &Cloud) -> Result<Vec<u8>, Memory>
 }
 
 /// The header of the text of a geometry. Its fields have their widths, so the whole text is read as the
-/// same geometry.
+/// same geometry in each profile that has its heads.
 pub(crate) fn header_of(alloc: Global, g: &Geometry) -> Result<Vec<u8>, Memory>
     ensures text { IfOk result (λ text. text.items ≡ text_of (header_lines g.now)) }
-    ensures again { IfOk result (λ _. ply_read (ply_text g.now) ≡ Ok g.now) }
+    ensures again { IfOk result (λ _. IsReadAgain (ply_text g.now) g.now) }
 {
     match g {
         Geometry::Mesh(mesh) => mesh_header(alloc, mesh),

@@ -4,6 +4,7 @@
 #![tactic(auto)]
 
 mod bodies;
+mod columns;
 mod face_lines;
 mod faces_ahead;
 mod head_writer;

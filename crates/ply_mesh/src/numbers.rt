@@ -1,45 +1,50 @@
-//! Numbers in the range of a data type.
+//! Numbers within bounds.
 
-ghost use Rattle.std.specs.Prelude.{◌≡◌, ◌≤◌, ◌<◌, ◌^◌, IsTrue, FitsSigned};
+ghost use Rattle.std.specs.Prelude.{◌≡◌, ◌<◌, ◌≤◌, length, IsTrue, IfSome, FitsSigned, true};
 ghost use Rattle.std.specs.Int.{w32};
-ghost use Rattle.ply_text.specs.Numbers.{is_between};
-ghost use Rattle.ply_mesh.specs.Body.{IsRange, token_number};
+ghost use Rattle.std.specs.Prelude.{Some, drop};
+ghost use Rattle.attr_heads.specs.Bounds.{in_bounds};
+ghost use Rattle.ply_text.specs.Numbers.{first_integer};
+ghost use Rattle.ply_text.specs.Tokens.{tokens_of};
+ghost use Rattle.ply_mesh.specs.Body.{token_number};
 
-use attr_heads::{greatest_of, least_of};
-use ply_text::read_int;
+use attr_heads::Bounds;
+use ply_text::{int_at, read_int};
 
-/// How far the numbers of a data type go below 0, and the greatest of them.
-#[tactic(auto, using(crate::proofs::Types::range_is))]
-pub(crate) fn range_of(dtype: u8) -> (u32, u32)
-    ensures range { IsRange dtype result.0 result.1 }
-    ensures below { result.0 ≤ 2 ^ 31 }
-    ensures most { result.1 < 2 ^ 31 }
+/// Whether a number lies within bounds.
+#[tactic(auto, unfolding(attr_heads::specs::Bounds::in_bounds))]
+pub(crate) fn is_within(bounds: Bounds, v: i64) -> bool
+    ensures value { result ≡ in_bounds bounds v }
+    ensures fits { IsTrue result → FitsSigned w32 v }
 {
-    (
-        least_of(dtype).unsigned_abs(),
-        greatest_of(dtype).unsigned_abs(),
-    )
+    bounds.least as i64 <= v && v <= bounds.greatest as i64
 }
 
-/// Whether a number is from `-below` up to `most`.
-pub(crate) fn is_within(v: i64, below: u32, most: u32) -> bool
-    ensures value { result ≡ is_between below most v }
-    ensures fits { IsTrue result → below ≤ 2 ^ 31 → most < 2 ^ 31 → FitsSigned w32 v }
+/// The number of a token, if it lies within bounds.
+#[tactic(auto, using(crate::proofs::BoundedNumbers::bounded_none, crate::proofs::BoundedNumbers::bounded_out))]
+pub(crate) fn number_of(bounds: Bounds, token: &[u8]) -> Option<i32>
+    ensures { result ≡ token_number bounds token.now }
 {
-    -(below as i64) <= v && v <= most as i64
-}
-
-/// The number of a token, if it is in the range of a data type.
-#[tactic(auto, using(crate::proofs::Types::typed_some, crate::proofs::Types::typed_none, crate::proofs::Types::typed_out))]
-pub(crate) fn number_of(dtype: u8, token: &[u8]) -> Option<i32>
-    ensures { result ≡ token_number dtype token.now }
-{
-    let range = range_of(dtype);
     let Some(v) = read_int(token) else {
         return None;
     };
-    if !is_within(v, range.0, range.1) {
+    if !is_within(bounds, v) {
         return None;
     }
     Some(v as i32)
+}
+
+/// The number of the first token from `place` on, and the place after it, if it lies within bounds. None says nothing about
+/// the token.
+pub(crate) fn number_at(line: &[u8], place: usize, bounds: Bounds) -> Option<(i32, usize)>
+    requires { place ≤ length line.now }
+    ensures first { IfSome result (λ r. first_integer (tokens_of (drop place line.now)) ≡ Some (r.0, tokens_of (drop r.1 line.now))) }
+    ensures within { IfSome result (λ r. r.1 ≤ length line.now) }
+    ensures bounds { IfSome result (λ r. in_bounds bounds r.0 ≡ true) }
+{
+    let found = int_at(line, place, 1 << 31, i32::MAX as u32)?;
+    if !bounds.hold(found.0) {
+        return None;
+    }
+    Some(found)
 }

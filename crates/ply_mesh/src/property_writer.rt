@@ -50,15 +50,16 @@ fn usage_name(usage: u8, j: u8) -> &'static [u8]
     b"t"
 }
 
-/// Whether a head may have the names of its usage.
+/// Whether a head may have the names of its usage: one with a square never does.
 fn may_be_named(head: &Head) -> bool
     ensures { result ≡ may_be_named head.now }
 {
     let usage = head.usage;
     let comps = head.comps;
-    ((usage == POSITION || usage == NORMAL) && comps == 3)
-        || (usage == COLOUR && (comps == 3 || comps == 4))
-        || (usage == TEXTURE_COORDINATE && comps == 2)
+    head.octa.is_none()
+        && (((usage == POSITION || usage == NORMAL) && comps == 3)
+            || (usage == COLOUR && (comps == 3 || comps == 4))
+            || (usage == TEXTURE_COORDINATE && comps == 2))
 }
 
 fn takes_names(usage: u8, head: &Head) -> bool

@@ -4,14 +4,16 @@ ghost use Rattle.std.specs.Prelude.{◌≡◌, ◌+◌, ◌<◌, ◌-◌, ◌^�
 ghost use Rattle.drc_base.specs.declared.faults.Fault.{Fault as AnyFault};
 ghost use Rattle.drc_base.specs.declared.faults.Refusal.TheVariants as refusal;
 ghost use Rattle.drc_base.specs.Refusals.{Answers, Refuses};
-ghost use Rattle.ply_text.specs.DeclaredLines.{declared_of_text};
+ghost use Rattle.attr_heads.specs.Head.{heads_fault, row_bounds};
+ghost use Rattle.ply_text.specs.DeclaredLines.{declared_of_text_in};
 ghost use Rattle.ply_text.specs.Tokens.{tokens_of};
 ghost use Rattle.ply_text.specs.IsHeader.{IsHeader};
 ghost use Rattle.ply_mesh.specs.Body.{row_read, items_from, AreRowsRead};
-ghost use Rattle.ply_mesh.specs.Read.{body_of, ply_read};
+ghost use Rattle.ply_mesh.specs.Read.{body_of, ply_read_in};
 
 use crate::bodies::{read_end, read_faces, read_rows, skip_lines};
-use drc_base::Refusal;
+use crate::columns::row_bounds;
+use drc_base::{Profile, Refusal};
 use mesh_model::{Cloud, CornerMesh, Geometry};
 use ply_text::{Header, Lines, read_header};
 use std::alloc::Global;
@@ -40,14 +42,23 @@ fn read_points(
     lines: &mut Lines<'_>,
     size: usize,
 ) -> Result<Vec<i32>, Refusal>
-    requires { header.now.body_line + length lines.old < 2 ^ 63 + 8 }
+    requires heads { heads_fault header.now.heads ≡ None }
+    requires room { header.now.body_line + length lines.old < 2 ^ 63 + 8 }
     ensures fewer { length lines.new ≤ length lines.old }
-    ensures rows { let due = items_from (row_read header.now.types) header.now.vertices header.now.body_line (map tokens_of lines.old) in
+    ensures rows { let due = items_from (row_read (row_bounds header.now.heads)) header.now.vertices header.now.body_line (map tokens_of lines.old) in
         MatchResult result (λ cells. AreRowsRead due cells.items (map tokens_of lines.new)) (λ e. Refuses due e) }
 {
-    let types = header.types.as_slice();
-    let room = room_of(header.vertices, types.len(), size / NUMBER_BYTES);
-    read_rows(alloc, lines, types, header.vertices, header.body_line, room)
+    let columns = row_bounds(alloc, header.heads.as_slice())?;
+    let columns = columns.as_slice();
+    let room = room_of(header.vertices, columns.len(), size / NUMBER_BYTES);
+    read_rows(
+        alloc,
+        lines,
+        columns,
+        header.vertices,
+        header.body_line,
+        room,
+    )
 }
 
 /// The cloud of a body.
@@ -111,13 +122,14 @@ fn read_body(
 /// The geometry of a PLY text, or its first fault with its line: the faults of the header, then PlyRow
 /// and PlyNumber at the lines of points, PlyRow, PlyNumber, PlyFace and PlyIndex at the lines of
 /// faces, PlyShort where the text ends too early, and PlyRest where more follows than lines without
-/// tokens (PLY 1.0, in this project's profile). A fault of a line before `end_header` and before the first line that
-/// quantises an attribute comes before out of memory.
-pub fn read_ply(alloc: Global, bytes: &[u8]) -> Result<Geometry, Refusal>
-    ensures geometry { Answers (λ g. g) (ply_read bytes.now) result }
-    ensures early { (f : AnyFault) → declared_of_text bytes.now ≡ Err f → result ≡ Err (refusal.Fault f) }
+/// tokens (PLY 1.0, in this project's profile); the line of a square is read where the profile has octahedral
+/// attributes, and else says nothing. A fault of a line before `end_header` and before the first line that says more of an
+/// attribute comes before out of memory.
+pub fn read_ply(alloc: Global, profile: Profile, bytes: &[u8]) -> Result<Geometry, Refusal>
+    ensures geometry { Answers (λ g. g) (ply_read_in profile.number bytes.now) result }
+    ensures early { (f : AnyFault) → declared_of_text_in profile.number bytes.now ≡ Err f → result ≡ Err (refusal.Fault f) }
 {
-    let header = read_header(alloc, bytes)?;
+    let header = read_header(alloc, profile, bytes)?;
     let mut lines = Lines::new(bytes);
     skip_lines(&mut lines, header.body_line - 1);
     read_body(alloc, header, &mut lines, bytes.len())

@@ -1,10 +1,10 @@
 //! The text of a geometry: printed to a sink as it is made, or whole in memory.
 
-ghost use Rattle.std.specs.Prelude.{◌≡◌, ◌≤◌, ◌++◌, Ok, true, length, OnOk, IfOk};
+ghost use Rattle.std.specs.Prelude.{◌≡◌, ◌≤◌, ◌++◌, true, length, OnOk, IfOk};
 ghost use Rattle.std.specs.Io.KnownBytes.{Appends};
 ghost use Rattle.drc_base.specs.Counters.{HasCause};
 ghost use Rattle.drc_base.specs.Sinks.{AppendsPrefix};
-ghost use Rattle.ply_mesh.specs.Read.{ply_read};
+ghost use Rattle.ply_mesh.specs.RoundTripLaw.{IsReadAgain};
 ghost use Rattle.ply_mesh.specs.Text.{text_of, ply_text};
 ghost use Rattle.ply_mesh.specs.Printing.{header_lines, Prints};
 
@@ -38,10 +38,11 @@ impl Model for PlyText {
 }
 
 impl PlyText {
-    /// The text of a geometry: `read_ply` reads it as the same geometry. Printing it takes no memory.
+    /// The text of a geometry: `read_ply` reads it as the same geometry in each profile that has its heads, where it has a square
+    /// those with octahedral attributes. Printing it takes no memory.
     pub fn new(alloc: Global, geometry: Geometry) -> Result<PlyText, Memory>
         ensures text { IfOk result (λ text. text ≡ ply_text geometry) }
-        ensures again { IfOk result (λ text. ply_read text ≡ Ok geometry) }
+        ensures again { IfOk result (λ text. IsReadAgain text geometry) }
     {
         let header = header_of(alloc, &geometry)?;
         Ok(PlyText { header, geometry })
@@ -90,10 +91,11 @@ fn put_header<O: Sink>(out: &mut O, header: &[u8], chunk: &mut [u8]) -> Result<u
     Ok(header.len())
 }
 
-/// The text of a geometry: `read_ply` reads it as the same geometry.
+/// The text of a geometry: `read_ply` reads it as the same geometry in each profile that has its heads, where it has a square
+/// those with octahedral attributes.
 pub fn write_ply(alloc: Global, g: &Geometry) -> Result<Vec<u8>, Memory>
     ensures text { IfOk result (λ text. text.items ≡ ply_text g.now) }
-    ensures again { IfOk result (λ text. ply_read text.items ≡ Ok g.now) }
+    ensures again { IfOk result (λ text. IsReadAgain text.items g.now) }
 {
     let header = header_of(alloc, g)?;
     let mut out = TextSink::new(alloc);

@@ -1,4 +1,4 @@
--- Heads that fit, and have their quantisations, pass their tests.
+-- Heads that fit, and have their quantisations and squares, pass their tests.
 use Rattle.std.proofs.Common.{◌≡◌, ℕ, ◌+◌, ◌≤◌, true, List, [], ◌∷◌, length, All, Option, Some, None, refl, arith}
 use Rattle.std.specs.Prelude.{IfSome}
 use Rattle.std.specs.List.{AllByRecursion}
@@ -10,15 +10,17 @@ use Rattle.attr_heads.specs.declared.heads.Head.{Head}
 use Rattle.attr_heads.specs.declared.quants.Quant.{Quant}
 use Rattle.attr_heads.specs.DataTypes.{is_type, is_integer}
 use Rattle.attr_heads.specs.Quants.{has_minima, has_bits}
+use Rattle.attr_heads.specs.Octahedra.{has_coordinates, has_square_bits}
+use Rattle.attr_heads.specs.declared.octahedra.TheConstants.{OCTAHEDRAL_INTEGERS}
 use Rattle.attr_heads.specs.Head.{has_comps, head_fault, each_fault, heads_fault}
 use Rattle.attr_heads.proofs.FirstFaults.{unless-true, first_fault-cons}
 use Rattle.attr_heads.proofs.Types.{type_passes}
 use Rattle.ply_text.specs.Header.{is_head_typed}
-use Rattle.ply_text.specs.IsHeader.{QuantFits, HeadFits}
+use Rattle.ply_text.specs.IsHeader.{QuantFits, SquareFits, HeadFits}
 
 -- a type of integers is accepted
 pub integer_accepted : (dtype : ℕ) → is_integer dtype ≡ true → is_type dtype ≡ true
-integer_accepted dtype is = type_passes dtype None is
+integer_accepted dtype is = type_passes dtype None None is
 
 -- one to four components are accepted
 pub four_accepted : (comps : ℕ) → (1 ≤ comps) × (comps ≤ 4) → has_comps comps ≡ true
@@ -32,12 +34,20 @@ bits_right : (q : Option Quant) (comps : ℕ) → IfSome q (QuantFits comps) →
 bits_right None comps f = refl
 bits_right (Some q) comps f = f.bits
 
+coordinates_right : (o : Option ℕ) (comps : ℕ) → IfSome o (SquareFits comps) → has_coordinates comps o ≡ true
+coordinates_right None comps f = refl
+coordinates_right (Some bits) comps f = eq-eqb comps OCTAHEDRAL_INTEGERS f.coordinates
+
+square_right : (o : Option ℕ) (comps : ℕ) → IfSome o (SquareFits comps) → has_square_bits o ≡ true
+square_right None comps f = refl
+square_right (Some bits) comps f = f.bits_fit
+
 passes : (k : ℕ) (h : Head) → HeadFits h → is_head_typed h ≡ true → head_fault k h ≡ None
 passes k h fits typed =
     first_fault-cons _ _ (unless-true _ AttrType k fits.usage)
     (first_fault-cons _ _ (unless-true _ DataType k typed)
-    (first_fault-cons _ _ (unless-true _ Components k (and_from _ _ fits.comps (minima_right h.quant h.comps fits.quant)))
-    (first_fault-cons _ [] (unless-true _ QuantBits k (bits_right h.quant h.comps fits.quant)) refl)))
+    (first_fault-cons _ _ (unless-true _ Components k (and_from _ _ fits.comps (and_from _ _ (minima_right h.quant h.comps fits.quant) (coordinates_right h.octa h.comps fits.octa))))
+    (first_fault-cons _ [] (unless-true _ QuantBits k (and_from _ _ (bits_right h.quant h.comps fits.quant) (square_right h.octa h.comps fits.octa))) refl)))
 
 each_passes : (k : ℕ) (hs : List Head) → AllByRecursion (λ h. HeadFits h × (is_head_typed h ≡ true)) hs → each_fault k hs ≡ None
 each_passes k [] all = refl

@@ -17,7 +17,7 @@ use Rattle.ply_text.specs.Faults.{refuse, or_refuse}
 use Rattle.ply_text.specs.Numbers.{natural_within}
 use Rattle.ply_text.specs.Words.{is_indices}
 use Rattle.ply_text.specs.PropertyTypes.{type_of}
-use Rattle.ply_text.specs.Comments.{is_form, attr_of, quant_of, with_quant}
+use Rattle.ply_text.specs.Comments.{is_form, attr_of, quant_of, with_quant, is_octa, octa_of, with_octa}
 use Rattle.ply_text.specs.Declarations.{is_format, keyword_at, element_of, is_list, scalar_of, list_of}
 
 -- a property of a point: its data type, and its name
@@ -92,11 +92,18 @@ quantisation at d line = do
   q ← or_refuse PlyAttr at (quant_of d.heads line)
   Ok (record d { heads = with_quant q.0 q.1 d.heads })
 
--- a comment: any but the two forms of this project's own says nothing
-unfoldable pub comment : ℕ → Draft → List (List ℕ) → Result Draft Fault
-comment at d line =
+-- a square's line
+unfoldable pub square : ℕ → Draft → List (List ℕ) → Result Draft Fault
+square at d line = do
+  q ← or_refuse PlyAttr at (octa_of d.heads line)
+  Ok (record d { heads = with_octa q.0 q.1 d.heads })
+
+-- a comment: any but the forms of this project's own that the profile of this number has says nothing
+unfoldable pub comment : ℕ → ℕ → Draft → List (List ℕ) → Result Draft Fault
+comment profile at d line =
     if is_form (codes "attr") line then attribute at d line
-    else (if is_form (codes "quant") line then quantisation at d line else Ok d)
+    else (if is_form (codes "quant") line then quantisation at d line
+    else (if is_octa profile line then square at d line else Ok d))
 
 -- a line after the format's
 abbrev pub declaration : ℕ → Draft → List (List ℕ) → Keyword → Result Draft Fault
@@ -111,10 +118,10 @@ body at d line word =
     else (if is_format line then Ok (record d { formatted = true }) else refuse PlyFormat at)
 
 -- any line but the first and the last
-abbrev pub statement_by : ℕ → Draft → List (List ℕ) → Keyword → Result Draft Fault
-statement_by at d line keyword.Comment = comment at d line
-statement_by at d line keyword.ObjInfo = Ok d
-statement_by at d line word = body at d line word
+abbrev pub statement_by : ℕ → ℕ → Draft → List (List ℕ) → Keyword → Result Draft Fault
+statement_by profile at d line keyword.Comment = comment profile at d line
+statement_by profile at d line keyword.ObjInfo = Ok d
+statement_by profile at d line word = body at d line word
 
-unfoldable pub statement : ℕ → Draft → List (List ℕ) → Result Draft Fault
-statement at d line = statement_by at d line (keyword_at line)
+unfoldable pub statement : ℕ → ℕ → Draft → List (List ℕ) → Result Draft Fault
+statement profile at d line = statement_by profile at d line (keyword_at line)

@@ -6,6 +6,7 @@ use Rattle.std.specs.Str.{bytes_eq}
 use Rattle.drc_base.specs.declared.faults.Fault.{Fault}
 use Rattle.drc_base.specs.declared.kinds.Kind.TheVariants.{PlyMagic, PlyHeader, PlyElement, PlyAttr, PlyShort, AttrLimit, ValueLimit}
 use Rattle.drc_base.specs.declared.limits.TheConstants.{MAX_ATTRIBUTES, MAX_VALUES}
+use Rattle.drc_base.specs.declared.profiles.TheConstants.{PROFILE_TWO}
 use Rattle.drc_base.specs.Steps.{◌>>=◌}
 use Rattle.attr_heads.specs.declared.heads.Head.{Head}
 use Rattle.attr_heads.specs.Head.{has_type}
@@ -24,9 +25,9 @@ use Rattle.ply_text.specs.NamedHeads.{named_heads}
 unfoldable pub column_types : List Head → List ℕ
 column_types heads = flat_map (λ h. replicate h.comps (column_type h.dtype)) heads
 
--- a head is quantised exactly where its type is that of floats
+-- a head has a quantisation or a square exactly where its type is that of floats
 abbrev pub is_head_typed : Head → Bool
-is_head_typed h = has_type h.dtype h.quant
+is_head_typed h = has_type h.dtype h.quant h.octa
 
 -- the types of properties, in order
 abbrev pub property_types : List Property → List ℕ
@@ -72,21 +73,26 @@ is_end_by _ = false
 abbrev pub ends_header : Draft → List (List ℕ) → Bool
 ends_header d line = d.formatted && is_end_by (keyword_at line)
 
--- the header from line number `at` on
-abbrev pub header_from : ℕ → Draft → List (List (List ℕ)) → Result Header Fault
-header_from at d [] = refuse PlyShort at
-header_from at d (line ∷ lines) =
-    if ends_header d line then ply_header_at at d line else (statement at d line >>= λ next. header_from (at + 1) next lines)
+-- the header from line number `at` on, in the profile of this number
+abbrev pub header_from : ℕ → ℕ → Draft → List (List (List ℕ)) → Result Header Fault
+header_from profile at d [] = refuse PlyShort at
+header_from profile at d (line ∷ lines) =
+    if ends_header d line then ply_header_at at d line
+    else (statement profile at d line >>= λ next. header_from profile (at + 1) next lines)
 
 -- nothing was declared yet
 abbrev pub no_draft : Draft
 no_draft = record { formatted = false; heads = []; vertices = None; properties = []; faces = None; list = None }
 
 -- the header of lines
-abbrev pub header_of_lines : List (List (List ℕ)) → Result Header Fault
-header_of_lines [] = refuse PlyShort 1
-header_of_lines (first ∷ lines) = if is_magic first then header_from 2 no_draft lines else refuse PlyMagic 1
+abbrev pub header_of_lines : ℕ → List (List (List ℕ)) → Result Header Fault
+header_of_lines profile [] = refuse PlyShort 1
+header_of_lines profile (first ∷ lines) = if is_magic first then header_from profile 2 no_draft lines else refuse PlyMagic 1
 
--- the header of a PLY text, or its first fault
-unfoldable pub header_of : List ℕ → Result Header Fault
-header_of text = header_of_lines (token_lines text)
+-- the header of a PLY text in the profile of this number, or its first fault
+unfoldable pub header_of_in : ℕ → List ℕ → Result Header Fault
+header_of_in profile text = header_of_lines profile (token_lines text)
+
+-- the same in the profile for which no other one is chosen
+abbrev pub header_of : List ℕ → Result Header Fault
+header_of text = header_of_in PROFILE_TWO.number text

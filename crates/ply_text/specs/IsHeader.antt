@@ -8,6 +8,8 @@ use Rattle.ply_text.specs.declared.headers.Header.{Header}
 use Rattle.attr_heads.specs.DataTypes.{is_type, is_integer}
 use Rattle.attr_heads.specs.Usages.{is_usage}
 use Rattle.attr_heads.specs.Quants.{are_quant_bits}
+use Rattle.attr_heads.specs.Octahedra.{are_octahedral_bits}
+use Rattle.attr_heads.specs.declared.octahedra.TheConstants.{OCTAHEDRAL_INTEGERS}
 use Rattle.attr_heads.specs.Head.{has_comps, heads_fault}
 use Rattle.ply_text.specs.Draft.{Draft}
 use Rattle.ply_text.specs.Header.{column_types}
@@ -21,12 +23,22 @@ pub record QuantFits (comps : ℕ) (q : Quant) : Type 0 where
 abbrev pub FitsAt : List Head → ℕ → Quant → Type 0
 FitsAt heads n q = (d : Head) → QuantFits (slice_index_or heads n d).comps q
 
--- a head passes its tests, but for its type: it may get its quantisation by a later line
+-- the bits are in range, and there are the two coordinates
+pub record SquareFits (comps bits : ℕ) : Type 0 where
+  pub bits_fit : IsTrue (are_octahedral_bits bits)
+  pub coordinates : comps ≡ OCTAHEDRAL_INTEGERS
+
+-- a square of so many bits fits head n
+abbrev pub FitsSquareAt : List Head → ℕ → ℕ → Type 0
+FitsSquareAt heads n bits = (d : Head) → SquareFits (slice_index_or heads n d).comps bits
+
+-- a head passes its tests, but for its type: it may get its quantisation or its square by a later line
 pub record HeadFits (h : Head) : Type 0 where
   pub usage : IsTrue (is_usage h.usage)
   pub dtype : IsTrue (is_type h.dtype)
   pub comps : IsTrue (has_comps h.comps)
   pub quant : IfSome h.quant (QuantFits h.comps)
+  pub octa : IfSome h.octa (SquareFits h.comps)
 
 -- the type of a property is one of integers
 abbrev pub HasType : Property → Type 0

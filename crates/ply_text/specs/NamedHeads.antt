@@ -43,7 +43,7 @@ run_of dtype ps = run_by name_runs dtype ps
 -- attribute number k with this usage, type and components
 abbrev pub named_head : ℕ → ℕ → ℕ × ℕ → Head
 named_head k dtype run =
-    record { usage = run.0; dtype = dtype; comps = run.1; normalized = if run.0 == COLOUR then 1 else 0; id = k; quant = None }
+    record { usage = run.0; dtype = dtype; comps = run.1; normalized = if run.0 == COLOUR then 1 else 0; id = k; quant = None; octa = None }
 
 -- the attributes from number k on, from the left; the next `skip` properties belong to the one before
 abbrev pub named_heads : ℕ → ℕ → List Property → List Head

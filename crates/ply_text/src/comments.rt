@@ -2,14 +2,18 @@
 
 ghost use Rattle.std.specs.Prelude.{◌≡◌, ◌≤◌, ◌<◌, length, option_map, IfOk, IfSome};
 ghost use Rattle.ply_text.specs.Tokens.{tokens_of};
-ghost use Rattle.ply_text.specs.Comments.{byte_of, head_of, attr_of, patterns_of, fields_of, quant_of};
-ghost use Rattle.ply_text.specs.IsHeader.{HeadFits, QuantFits, FitsAt};
+ghost use Rattle.ply_text.specs.Comments.{byte_of, head_of, attr_of, patterns_of, is_bare, fields_of, quant_of, is_octa, takes_square, square_of, octa_of};
+ghost use Rattle.ply_text.specs.IsHeader.{HeadFits, QuantFits, FitsAt, SquareFits, FitsSquareAt};
 
 use crate::bit_patterns::pattern_of;
 use crate::integers::natural_within;
+use crate::statements::is_form;
 use crate::token_reader::TokenReader;
-use attr_heads::{Head, Quant, are_quant_bits, has_comps, is_type, is_usage};
-use drc_base::{Memory, Sequence};
+use attr_heads::{
+    Head, OCTAHEDRAL_INTEGERS, OCTAHEDRAL_SINCE, Quant, are_octahedral_bits, are_quant_bits,
+    has_comps, is_float, is_type, is_usage,
+};
+use drc_base::{Memory, Profile, Sequence};
 use std::alloc::Global;
 
 /// The byte that a token of digits alone writes.
@@ -59,6 +63,7 @@ fn head_of(
         normalized,
         id: id as u32,
         quant: None,
+        octa: None,
     })
 }
 
@@ -98,7 +103,14 @@ fn patterns_of(alloc: Global, tokens: &mut TokenReader<'_>) -> Result<Option<Vec
     Ok(Some(patterns))
 }
 
-/// The quantisation of a head that isn't quantised yet, if the fields of its line give one.
+/// Whether no line says more of a head.
+fn is_bare(head: &Head) -> bool
+    ensures { result ≡ is_bare head.now }
+{
+    head.quant.is_none() && head.octa.is_none()
+}
+
+/// The quantisation of a head that is bare so far, if the fields of its line give one.
 #[tactic(auto, unfolding(crate::specs::Comments::fields_of))]
 fn fields_of(
     alloc: Global,
@@ -122,7 +134,7 @@ fn fields_of(
     let Some(min) = patterns_of(alloc, minima)? else {
         return Ok(None);
     };
-    if head.quant.is_some() || min.len() != head.comps as usize {
+    if !is_bare(head) || min.len() != head.comps as usize {
         return Ok(None);
     }
     Ok(Some(Quant {
@@ -167,4 +179,55 @@ pub(crate) fn quant_of(
         None => Ok(None),
         Some(quant) => Ok(Some((number, quant))),
     }
+}
+
+/// Whether the line is a comment of a square, in a profile that has octahedral attributes.
+pub(crate) fn is_octa(profile: Profile, line: &[u8]) -> bool
+    ensures { result ≡ is_octa profile.number (tokens_of line.now) }
+{
+    profile.has(OCTAHEDRAL_SINCE) && is_form(b"octa", line)
+}
+
+/// Whether a head may be given a square.
+fn takes_square(head: &Head) -> bool
+    ensures { result ≡ takes_square head.now }
+{
+    is_bare(head) && is_float(head.dtype) && head.comps == OCTAHEDRAL_INTEGERS
+}
+
+/// The bits of the square of a head, if the field of its line gives them.
+#[tactic(auto, unfolding(crate::specs::Comments::square_of))]
+fn square_of(head: &Head, bits: &[u8]) -> Option<u8>
+    ensures bits { result ≡ square_of head.now bits.now }
+    ensures fits { IfSome result (SquareFits head.now.comps) }
+{
+    let bits = byte_of(bits)?;
+    if !takes_square(head) || !are_octahedral_bits(bits) {
+        return None;
+    }
+    Some(bits)
+}
+
+/// The number of a head and the bits of the square that an `octa` line gives to it.
+#[tactic(auto, unfolding(crate::specs::Comments::octa_of))]
+pub(crate) fn octa_of(heads: &[Head], line: &[u8]) -> Option<(usize, u8)>
+    ensures found { result ≡ octa_of heads.now (tokens_of line.now) }
+    ensures number { IfSome result (λ f. f.0 < length heads.now) }
+    ensures fits { IfSome result (λ f. FitsSquareAt heads.now f.0 f.1) }
+{
+    let mut tokens = TokenReader::new(line);
+    let _word = tokens.next()?;
+    let _drc = tokens.next()?;
+    let _form = tokens.next()?;
+    let k = tokens.next()?;
+    let bits = tokens.next()?;
+    if tokens.next().is_some() {
+        return None;
+    }
+    let number = natural_within(k, 15)? as usize;
+    if number >= heads.len() {
+        return None;
+    }
+    let bits = square_of(&heads[number], bits)?;
+    Some((number, bits))
 }

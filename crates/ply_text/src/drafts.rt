@@ -3,18 +3,20 @@
 ghost use Rattle.std.specs.Prelude.{◌≡◌, ◌<◌, ◌≤◌, [], All, IfOk, IfSome, OnOk, vec_len};
 ghost use Rattle.drc_base.specs.Refusals.{Answers};
 ghost use Rattle.ply_text.specs.Tokens.{tokens_of};
-ghost use Rattle.ply_text.specs.Draft.{draft_of, element, scalar, list, attribute, quantisation, comment, declaration, body, statement};
-ghost use Rattle.ply_text.specs.Comments.{with_quant};
-ghost use Rattle.ply_text.specs.IsHeader.{HeadFits, FitsAt, HasType, IsDraft};
+ghost use Rattle.ply_text.specs.Draft.{draft_of, element, scalar, list, attribute, quantisation, square, comment, declaration, body, statement};
+ghost use Rattle.ply_text.specs.Comments.{with_quant, with_octa};
+ghost use Rattle.ply_text.specs.IsHeader.{HeadFits, FitsAt, FitsSquareAt, HasType, IsDraft};
 
-use crate::comments::{attr_of, quant_of};
+use crate::comments::{attr_of, is_octa, octa_of, quant_of};
 use crate::headers::Property;
 use crate::integers::natural_within;
 use crate::property_types::type_of;
 use crate::statements::{element_of, is_form, is_format, is_list, keyword_at, list_of, scalar_of};
 use crate::words::{Keyword, is_indices, is_word};
 use attr_heads::{Head, Quant};
-use drc_base::{Fault, Kind, MAX_ATTRIBUTES, MAX_FACES, MAX_POINTS, Memory, Refusal, Sequence};
+use drc_base::{
+    Fault, Kind, MAX_ATTRIBUTES, MAX_FACES, MAX_POINTS, Memory, Profile, Refusal, Sequence,
+};
 use std::alloc::Global;
 
 /// What the lines of a header have declared so far.
@@ -144,11 +146,33 @@ impl HeaderDraft {
         }
     }
 
-    /// A comment: any but the two forms of this project's own says nothing.
-    #[tactic(auto, unfolding(crate::specs::Draft::comment))]
-    fn comment(&mut self, alloc: Global, at: u64, line: &[u8]) -> Result<(), Refusal>
+    /// A square's line.
+    #[tactic(auto, unfolding(crate::specs::Draft::square))]
+    fn square(&mut self, at: u64, line: &[u8]) -> Result<(), Refusal>
         requires { IsDraft (draft_of self.old) }
-        ensures step { Answers (λ _. draft_of self.new) (comment at (draft_of self.old) (tokens_of line.now)) result }
+        ensures step { Answers (λ _. draft_of self.new) (square at (draft_of self.old) (tokens_of line.now)) result }
+        ensures sound { OnOk result (IsDraft (draft_of self.new)) }
+    {
+        match octa_of(&self.heads, line) {
+            None => Err(Refusal::Fault(Fault::new(Kind::PlyAttr, at))),
+            Some(found) => {
+                set_octa(&mut self.heads, found.0, found.1);
+                Ok(())
+            }
+        }
+    }
+
+    /// A comment: any but the forms of this project's own that the profile has says nothing.
+    #[tactic(auto, unfolding(crate::specs::Draft::comment))]
+    fn comment(
+        &mut self,
+        alloc: Global,
+        profile: Profile,
+        at: u64,
+        line: &[u8],
+    ) -> Result<(), Refusal>
+        requires { IsDraft (draft_of self.old) }
+        ensures step { Answers (λ _. draft_of self.new) (comment profile.number at (draft_of self.old) (tokens_of line.now)) result }
         ensures sound { OnOk result (IsDraft (draft_of self.new)) }
     {
         if is_form(b"attr", line) {
@@ -156,6 +180,9 @@ impl HeaderDraft {
         }
         if is_form(b"quant", line) {
             return self.quantisation(alloc, at, line);
+        }
+        if is_octa(profile, line) {
+            return self.square(at, line);
         }
         Ok(())
     }
@@ -203,13 +230,19 @@ impl HeaderDraft {
 
     /// Any line of a header but the first and the last.
     #[tactic(auto, unfolding(crate::specs::Draft::statement))]
-    pub(crate) fn statement(&mut self, alloc: Global, at: u64, line: &[u8]) -> Result<(), Refusal>
+    pub(crate) fn statement(
+        &mut self,
+        alloc: Global,
+        profile: Profile,
+        at: u64,
+        line: &[u8],
+    ) -> Result<(), Refusal>
         requires { IsDraft (draft_of self.old) }
-        ensures step { Answers (λ _. draft_of self.new) (statement at (draft_of self.old) (tokens_of line.now)) result }
+        ensures step { Answers (λ _. draft_of self.new) (statement profile.number at (draft_of self.old) (tokens_of line.now)) result }
         ensures sound { OnOk result (IsDraft (draft_of self.new)) }
     {
         match keyword_at(line) {
-            Keyword::Comment => self.comment(alloc, at, line),
+            Keyword::Comment => self.comment(alloc, profile, at, line),
             Keyword::ObjInfo => Ok(()),
             word => self.body(alloc, at, line, word),
         }
@@ -228,4 +261,18 @@ fn set_quant(heads: &mut Vec<Head>, number: usize, quant: Quant)
 {
     let head = &mut heads[number];
     head.quant = Some(quant);
+}
+
+/// Gives head `number` a square of so many bits.
+#[tactic(auto, using(crate::proofs::Heads::with_octa_is))]
+fn set_octa(heads: &mut Vec<Head>, number: usize, bits: u8)
+    requires number { number < vec_len heads.old }
+    requires heads { All HeadFits heads.old.items }
+    requires square { FitsSquareAt heads.old.items number bits }
+    ensures set { heads.new.items ≡ with_octa number bits heads.old.items }
+    ensures heads { All HeadFits heads.new.items }
+    ensures len { vec_len heads.new ≡ vec_len heads.old }
+{
+    let head = &mut heads[number];
+    head.octa = Some(bits);
 }

@@ -14,7 +14,7 @@ use crate::named_heads::named_heads;
 use crate::property_types::column_type;
 use crate::statements::is_alone;
 use crate::words::is_word;
-use attr_heads::{Head, is_float, is_integer};
+use attr_heads::Head;
 use drc_base::{
     Fault, Kind, MAX_ATTRIBUTES, MAX_FACES, MAX_POINTS, MAX_VALUES, Memory, Refusal, Sequence,
 };
@@ -52,23 +52,13 @@ fn types_of(alloc: Global, properties: &[Property]) -> Result<Vec<u8>, Memory>
     Ok(properties.iter().map(|p| p.dtype).collect(alloc)?)
 }
 
-/// Whether a head is quantised exactly where its type is that of floats.
-fn is_typed(head: &Head) -> bool
-    ensures { result ≡ is_head_typed head.now }
-{
-    match &head.quant {
-        None => is_integer(head.dtype),
-        Some(_) => is_float(head.dtype),
-    }
-}
-
 #[tactic(auto, using(crate::proofs::Columns::each_typed))]
 fn are_typed(heads: &[Head]) -> bool
     ensures typed { result ≡ list_all is_head_typed heads.now }
     ensures each { IsTrue result → All (λ h. IsTrue (is_head_typed h)) heads.now }
 {
     for i in 0..heads.len() {
-        if !is_typed(&heads[i]) {
+        if !heads[i].has_type() {
             return false;
         }
     }

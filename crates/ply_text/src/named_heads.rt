@@ -27,6 +27,7 @@ fn named_head(k: u32, dtype: u8, run: (u8, u8)) -> Head
         normalized: if run.0 == COLOUR { 1 } else { 0 },
         id: k,
         quant: None,
+        octa: None,
     }
 }
 

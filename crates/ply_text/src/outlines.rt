@@ -1,18 +1,18 @@
 //! The lines of a header, tested without memory: of what they declare it is kept what the tests of the next lines need.
 //! So the faults of these lines are found before a list is made.
 
-ghost use Rattle.std.specs.Prelude.{◌≡◌, false, codes};
+ghost use Rattle.std.specs.Prelude.{◌≡◌, false};
 ghost use Rattle.ply_text.specs.Tokens.{tokens_of};
-ghost use Rattle.ply_text.specs.Comments.{is_form};
-ghost use Rattle.ply_text.specs.DeclaredLines.{Follows, no_outline, quantises};
+ghost use Rattle.ply_text.specs.declared.words.Keyword.TheVariants as word_of;
+ghost use Rattle.ply_text.specs.DeclaredLines.{Follows, no_outline, is_detail_by, is_detail};
 ghost use Rattle.ply_text.specs.Draft.{element, scalar, list, attribute, comment, declaration, body, statement};
 
-use crate::comments::attr_of;
+use crate::comments::{attr_of, is_octa};
 use crate::integers::natural_within;
 use crate::property_types::type_of;
 use crate::statements::{element_of, is_form, is_format, is_list, keyword_at, list_of, scalar_of};
 use crate::words::{Keyword, is_indices, is_word};
-use drc_base::{Fault, Kind, MAX_ATTRIBUTES, MAX_FACES, MAX_POINTS};
+use drc_base::{Fault, Kind, MAX_ATTRIBUTES, MAX_FACES, MAX_POINTS, Profile};
 use std::marker::Model;
 
 /// What the lines of a header have declared so far, as far as the tests of the next lines need it. Contracts see it as
@@ -138,11 +138,11 @@ impl Outline {
         Ok(())
     }
 
-    /// A comment that quantises no attribute.
+    /// A comment that says no more of an attribute.
     #[tactic(auto, unfolding(crate::specs::Draft::comment))]
-    fn comment(&mut self, at: u64, line: &[u8]) -> Result<(), Fault>
-        requires { is_form (codes "quant") (tokens_of line.now) ≡ false }
-        ensures { Follows (λ d. comment at d (tokens_of line.now)) self.old self.new result }
+    fn comment(&mut self, profile: Profile, at: u64, line: &[u8]) -> Result<(), Fault>
+        requires { is_detail_by profile.number word_of.Comment (tokens_of line.now) ≡ false }
+        ensures { Follows (λ d. comment profile.number at d (tokens_of line.now)) self.old self.new result }
     {
         if is_form(b"attr", line) {
             return self.attribute(at, line);
@@ -181,27 +181,27 @@ impl Outline {
         Ok(())
     }
 
-    /// Any line of a header but the first and the last that quantises no attribute.
+    /// Any line of a header but the first and the last that says no more of an attribute.
     #[tactic(auto, unfolding(crate::specs::Draft::statement))]
-    pub(crate) fn statement(&mut self, at: u64, line: &[u8]) -> Result<(), Fault>
-        requires { quantises (tokens_of line.now) ≡ false }
-        ensures { Follows (λ d. statement at d (tokens_of line.now)) self.old self.new result }
+    pub(crate) fn statement(&mut self, profile: Profile, at: u64, line: &[u8]) -> Result<(), Fault>
+        requires { is_detail profile.number (tokens_of line.now) ≡ false }
+        ensures { Follows (λ d. statement profile.number at d (tokens_of line.now)) self.old self.new result }
     {
         let word = keyword_at(line);
         match word {
-            Keyword::Comment => self.comment(at, line),
+            Keyword::Comment => self.comment(profile, at, line),
             Keyword::ObjInfo => Ok(()),
             _ => self.body(at, line, word),
         }
     }
 }
 
-/// Whether the line is a comment that quantises an attribute.
-pub(crate) fn quantises(line: &[u8]) -> bool
-    ensures { result ≡ quantises (tokens_of line.now) }
+/// Whether the line is a comment that says more of an attribute.
+pub(crate) fn is_detail(profile: Profile, line: &[u8]) -> bool
+    ensures { result ≡ is_detail profile.number (tokens_of line.now) }
 {
     match keyword_at(line) {
-        Keyword::Comment => is_form(b"quant", line),
+        Keyword::Comment => is_form(b"quant", line) || is_octa(profile, line),
         _ => false,
     }
 }

@@ -38,6 +38,6 @@ pub use restored::restore_with_flags;
 pub use schemes::{Behind, Facts, Prediction};
 pub use single::correct_parallelogram;
 pub use sources::CorrectionSource;
-pub use symbols::symbols_of;
+pub use symbols::{symbol_of, symbols_of};
 pub use transforms::Transform;
 pub use wraps::Wrap;

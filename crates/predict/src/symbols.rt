@@ -6,7 +6,7 @@ ghost use Rattle.predict.specs.Symbols.{zigzag_of};
 use std::alloc::{AllocError, Global};
 
 /// The zigzag symbol of an integer.
-pub(crate) fn symbol_of(x: i32) -> u32
+pub fn symbol_of(x: i32) -> u32
     ensures { result ≡ zigzag_of x }
 {
     if x < 0 {

@@ -1,7 +1,7 @@
 mod Examples
 pub mod Slots
 pub mod Values
-pub mod Precision
+pub mod Precisions
 pub mod Counts
 pub mod Widths
 pub mod Tables

@@ -7,7 +7,7 @@ use Rattle.drc_base.specs.declared.limits.TheConstants.{MAX_VALUES}
 use Rattle.symbol_tables.specs.Normal.{HasTable, greatest_count, used_of}
 use Rattle.symbol_coding.specs.Symbols.{counts_of}
 use Rattle.symbol_coding.specs.Block.{is_raw, lengths_of, precision, raw_cost, raw_length, tagged_cost}
-use Rattle.symbol_coding.proofs.Precision.{enough}
+use Rattle.symbol_coding.proofs.Precisions.{enough}
 use Rattle.symbol_coding.proofs.Counts.{counts_of-length, counts_of-positive, greatest-below, has-table, used-few}
 use Rattle.symbol_coding.proofs.Widths.{length-lengths_of, lengths_of-most, whole-groups}
 

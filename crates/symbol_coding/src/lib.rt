@@ -10,6 +10,8 @@ mod reading;
 mod symbols;
 mod writing;
 
+pub use coded::precision;
+pub use costs::{counts_in, digits_of, length_of_symbols};
 pub use reading::{Symbols, open_symbols, read_symbols};
 pub use symbols::CodedSymbols;
-pub use writing::write_symbols;
+pub use writing::{put_values, write_coded, write_symbols};

@@ -9,7 +9,7 @@ use std::alloc::Global;
 
 /// The head of positions of three integers of 32 bits each.
 pub fn position_head() -> Head
-    ensures { result ≡ record { usage = 0; dtype = 5; comps = 3; normalized = 0; id = 0; quant = None } }
+    ensures { result ≡ record { usage = 0; dtype = 5; comps = 3; normalized = 0; id = 0; quant = None; octa = None } }
 {
     Head {
         usage: 0,
@@ -18,6 +18,7 @@ pub fn position_head() -> Head
         normalized: 0,
         id: 0,
         quant: None,
+        octa: None,
     }
 }
 

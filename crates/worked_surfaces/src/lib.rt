@@ -14,6 +14,6 @@ pub use decoded::{
     TORUS_ROWS, TWIN_ROWS,
 };
 pub use faces::{BOOK, MIRRORED, RING, SQUARE, TETRAHEDRON, TORUS, TWICE, fan, grid, two_tori};
-pub use orders::{SQUARE_ORDER, WorkedOrder, ordered};
+pub use orders::{SQUARE_ORDER, WorkedOrder, all_below, ordered};
 pub use pairs::{TETRAHEDRON_PAIRS, TORUS_PAIRS};
 pub use tables::{glued, has_entries};

@@ -13,7 +13,7 @@ use std::marker::Brand;
 use std::sync::ledger::{Blank, Ledger};
 
 /// Whether all numbers are below one.
-fn all_below(numbers: &[u32], end: u32) -> bool
+pub fn all_below(numbers: &[u32], end: u32) -> bool
     ensures { IsTrue result → All (λ n. n < end) numbers.now }
 {
     for i in 0..numbers.len() {

@@ -5,6 +5,7 @@ pub mod Limited
 pub mod Decoders
 pub mod Declared
 pub mod Parted
+pub mod PairLengths
 pub mod Counted
 pub mod Faces
 pub mod Headed
@@ -15,5 +16,7 @@ pub mod Widened
 pub mod Linked
 pub mod Tabled
 pub mod AsRead
+pub mod PositionsAmong
 pub mod DecodersOnSurface
 pub mod HeadsBeside
+pub mod ProfileHeads

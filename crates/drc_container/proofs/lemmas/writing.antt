@@ -4,6 +4,8 @@ pub mod Codable
 pub mod Again
 pub mod Meanings
 pub mod Layouts
+pub mod Asking
+pub mod Needed
 pub mod Attributed
 pub mod SurfaceWritten
 pub mod SurfaceLayout

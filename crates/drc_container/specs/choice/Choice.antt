@@ -1,10 +1,8 @@
 -- What a choice says of an encoding, with what is written where nothing is chosen (this project's choice).
-use Rattle.std.specs.Prelude.{ℤ, Bool, true, false, Option, None, Some, unwrap_or, if◌then◌else◌}
+use Rattle.std.specs.Prelude.{ℕ, Bool, true, false, Option, None, Some, unwrap_or, if◌then◌else◌}
 use Rattle.mesh_model.specs.declared.geometries.Geometry.{Geometry}
-use Rattle.mesh_model.specs.Contents.{is_mesh}
-use Rattle.predict.specs.declared.schemes.Prediction.{Prediction}
+use Rattle.mesh_model.specs.Contents.{is_mesh, heads_in}
 use Rattle.predict.specs.declared.schemes.Prediction.TheVariants as prediction
-use Rattle.predict.specs.Schemes.{code_of}
 use Rattle.drc_container.specs.declared.choice.methods.Method.{Method}
 use Rattle.drc_container.specs.declared.choice.methods.Method.TheVariants as method
 use Rattle.drc_container.specs.declared.choice.choices.Index.{Index}
@@ -12,6 +10,9 @@ use Rattle.drc_container.specs.declared.choice.choices.Index.TheVariants as inde
 use Rattle.drc_container.specs.declared.choice.choices.Walk.{Walk}
 use Rattle.drc_container.specs.declared.choice.choices.Walk.TheVariants as walk
 use Rattle.drc_container.specs.declared.choice.choices.Choice.{Choice}
+use Rattle.drc_container.specs.declared.choice.predicts.Predict.{Predict}
+use Rattle.drc_container.specs.declared.choice.predicts.Predict.TheVariants.{Plain}
+use Rattle.drc_container.specs.choice.Predicts.{needed_number}
 
 -- the method: Edgebreaker with standard symbols for a mesh and sequential for a cloud, where none is chosen
 abbrev pub method_of : Geometry → Choice → Method
@@ -46,13 +47,13 @@ index_of choice = unwrap_or choice.index indexed.Plain
 
 -- how values are predicted: by the entry before under the sequential method and by a parallelogram else, where nothing is
 -- chosen
-abbrev pub predict_of : Method → Choice → Prediction
-predict_of m choice = unwrap_or choice.predict (if is_sequential m then prediction.Difference else prediction.Parallelogram)
+abbrev pub predict_of : Method → Choice → Predict
+predict_of m choice = unwrap_or choice.predict (Plain (if is_sequential m then prediction.Difference else prediction.Parallelogram))
 
 -- how a geometry's values are predicted
-abbrev pub predict_chosen : Geometry → Choice → Prediction
+abbrev pub predict_chosen : Geometry → Choice → Predict
 predict_chosen g choice = predict_of (method_of g choice) choice
 
--- the number of the prediction of a geometry's values
-abbrev pub chosen_code : Geometry → Choice → ℤ
-chosen_code g choice = code_of (predict_chosen g choice)
+-- the number of the first profile that has all that is written of a geometry
+abbrev pub written_number : Geometry → Choice → ℕ
+written_number g choice = needed_number (predict_chosen g choice) (heads_in g)

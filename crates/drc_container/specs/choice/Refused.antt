@@ -1,6 +1,7 @@
 -- Which geometries and choices are refused, by the first of the tests that fails (this project's choice).
 use Rattle.std.specs.Prelude.{◌==◌, ◌&&◌, ◌||◌, Bool, false, not, List, [], ◌∷◌, length, Option, None, Some, position, is_none}
 use Rattle.std.specs.Prelude.{nat_le, nat_lt, if◌then◌else◌}
+use Rattle.std.specs.List.{zip}
 use Rattle.drc_base.specs.declared.faults.Fault.{Fault}
 use Rattle.drc_base.specs.declared.kinds.Kind.TheVariants.{Choice as ChoiceKind, Empty, NoPosition, PointLimit, ValueLimit, Range}
 use Rattle.drc_base.specs.declared.limits.TheConstants.{MAX_POINTS, MAX_VALUES}
@@ -13,20 +14,23 @@ use Rattle.pairing.specs.Degenerate.{degenerate_fault}
 use Rattle.pairing.specs.Pairing.{pairing}
 use Rattle.eb_trace.specs.Trace.{fan_count}
 use Rattle.attr_section.specs.declared.values.Values.{Values}
-use Rattle.attr_section.specs.Values.{can_wrap, values_in}
-use Rattle.attr_section.specs.Written.{range_of}
+use Rattle.attr_section.specs.Values.{can_wrap}
+use Rattle.attr_section.specs.Attributes.{values_in}
+use Rattle.attr_section.specs.WrittenParts.{range_of}
 use Rattle.drc_container.specs.declared.choice.choices.Choice.{Choice}
-use Rattle.predict.specs.declared.schemes.Prediction.{Prediction}
+use Rattle.drc_container.specs.declared.choice.predicts.Predict.{Predict}
 use Rattle.predict.specs.Schemes.{facts}
-use Rattle.drc_container.specs.choice.Choice.{method_of, is_sequential, predict_chosen}
+use Rattle.drc_container.specs.choice.Predicts.{plain_of}
+use Rattle.drc_container.specs.choice.Choice.{method_of, is_sequential}
+use Rattle.drc_container.specs.choice.CanCode.{wraps}
 use Rattle.drc_container.specs.writing.Chosen.{mesh_in, values_chosen}
 use Rattle.drc_container.specs.writing.WrittenOnSurface.{GluedMesh, decoded, coded_values}
 use Rattle.drc_container.specs.declared.choice.codings.Coding.{Coding}
 
 -- whether a prediction that needs a surface is chosen
-abbrev pub chooses_surface : Option Prediction → Bool
+abbrev pub chooses_surface : Option Predict → Bool
 chooses_surface None = false
-chooses_surface (Some p) = (facts p).needs_surface
+chooses_surface (Some p) = (facts (plain_of p)).needs_surface
 
 -- a choice that doesn't fit: 0 a cloud whose method isn't sequential; 1 indices, but the geometry is no sequential mesh;
 -- 2 a prediction that needs a surface, but the method is sequential; 3 a walk, but the method is sequential
@@ -82,13 +86,10 @@ face_fault g choice = if is_sequential (method_of g choice) then None else degen
 abbrev pub limit_fault : List Values → Option Fault
 limit_fault values = unless (nat_le (values_in values) MAX_VALUES) ValueLimit (values_in values)
 
--- the first attribute whose coded values lie too far apart to be predicted: the greatest is 2^31 - 1 or more above the least
-abbrev pub spans_fault : List Values → Option Fault
-spans_fault values = at_place Range (position (λ v. not (can_wrap (range_of v.values))) values)
-
--- the same, where values are corrected
-abbrev pub predicted_range_fault : Prediction → List Values → Option Fault
-predicted_range_fault p values = if (facts p).corrects then spans_fault values else None
+-- the first attribute whose coded values are corrected in their range and lie too far apart for it: the greatest is 2^31 - 1 or more above
+-- the least
+abbrev pub range_fault : List Head → List Values → Option Fault
+range_fault heads values = at_place Range (position (λ (h, v). wraps h v && not (can_wrap (range_of v.values))) (zip heads values))
 
 -- why a geometry isn't encoded as chosen: the first of these faults
 unfoldable pub refused : Geometry → Choice → Option Fault
@@ -96,7 +97,7 @@ refused g choice = first_fault (
     early_fault g choice
     ∷ surface_fault g choice
     ∷ limit_fault (values_chosen g choice)
-    ∷ predicted_range_fault (predict_chosen g choice) (values_chosen g choice)
+    ∷ range_fault (heads_in g) (values_chosen g choice)
     ∷ [])
 
 -- why the surface of a mesh isn't traced: the first of these faults
@@ -107,10 +108,10 @@ tracing_fault m = first_fault (degenerate_fault m ∷ vertices_fault m ∷ [])
 abbrev pub values_fault : Coding → GluedMesh → Option Fault
 values_fault coding d =
     let values = coded_values coding d in
-    first_fault (limit_fault values ∷ predicted_range_fault coding.predict values ∷ [])
+    first_fault (limit_fault values ∷ range_fault d.mesh.heads values ∷ [])
 
 -- why a mesh isn't coded so by Edgebreaker: the first of these faults
 abbrev pub coding_fault : Coding → MeshParts → Option Fault
 coding_fault coding m =
     let values = coded_values coding (decoded m) in
-    first_fault (degenerate_fault m ∷ vertices_fault m ∷ limit_fault values ∷ predicted_range_fault coding.predict values ∷ [])
+    first_fault (degenerate_fault m ∷ vertices_fault m ∷ limit_fault values ∷ range_fault m.heads values ∷ [])

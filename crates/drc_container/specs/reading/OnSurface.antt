@@ -22,7 +22,8 @@ use Rattle.corner_table.specs.Ordered.{Ordered}
 use Rattle.attr_section.specs.declared.decoder_heads.DecoderHead.{DecoderHead}
 use Rattle.attr_section.specs.declared.values.Values.{Values}
 use Rattle.attr_section.specs.Heads.{heads_at}
-use Rattle.attr_section.specs.Values.{decoder_values_at}
+use Rattle.attr_section.specs.Positions.{PositionsRead, with_attribute}
+use Rattle.attr_section.specs.Attributes.{decoder_values_at}
 use Rattle.eb_section.specs.Connectivity.{Connectivity}
 use Rattle.drc_container.specs.declared.reading.info.AttrInfo.{AttrInfo}
 use Rattle.drc_container.specs.reading.Meaning.{attr_infos}
@@ -96,20 +97,31 @@ attributes_joined a b = record { heads = a.heads ++ b.heads; tables = a.tables +
 abbrev pub values_on : List AttrTable → ℕ
 values_on tables = sum_by (λ t. length t.values) tables
 
--- the attributes of a decoder over a surface in this order, behind so many values of other attributes
-unfoldable pub decoder_on : Profile → Ordered → DecoderHead → ℕ → Reading → Item SurfaceAttributes
-decoder_on p w d spent c = decoder_values_at p (Some w) d (length w.corners) spent c >>= λ x. Ok (decoder_attributes w x.0.1 x.0.0, x.1)
+-- what has been read of the positions behind these attributes: the first one of usage 0
+abbrev pub positions_from : PositionsRead → List Head → List AttrTable → PositionsRead
+positions_from found [] tables = found
+positions_from found (h ∷ heads) [] = found
+positions_from found (h ∷ heads) (t ∷ tables) = positions_from (with_attribute found h t.values (Some t.of_corner)) heads tables
+
+abbrev pub positions_among : SurfaceAttributes → PositionsRead
+positions_among a = positions_from PositionsRead.NotYet a.heads a.tables
+
+-- the attributes of a decoder over a surface in this order, behind so many values of other attributes and what was read of the positions
+unfoldable pub decoder_on : Profile → Ordered → PositionsRead → DecoderHead → ℕ → Reading → Item SurfaceAttributes
+decoder_on p w found d spent c =
+    decoder_values_at p (Some w) found d (length w.corners) spent c >>= λ x. Ok (decoder_attributes w x.0.1 x.0.0, x.1)
 
 -- the attributes of these decoders in turn, behind others
 unfoldable pub surface_decoders_at : Profile → Connectivity → SurfaceAttributes → List DecoderHead → Reading → Item SurfaceAttributes
 surface_decoders_at p s before [] c = Ok (before, c)
 surface_decoders_at p s before (d ∷ decoders) c =
-    decoder_on p (ordered_for s d) d (values_on before.tables) c >>= λ x. surface_decoders_at p s (attributes_joined before x.0) decoders x.1
+    decoder_on p (ordered_for s d) (positions_among before) d (values_on before.tables) c >>= λ x.
+    surface_decoders_at p s (attributes_joined before x.0) decoders x.1
 
 -- all attributes of an Edgebreaker mesh: the heads of its decoders, and the values of each decoder in turn
 unfoldable pub attributes_on : Profile → Connectivity → Reading → Item SurfaceAttributes
 attributes_on p s c = do
-  decoders ← heads_at (Some s.attr_data) c
+  decoders ← heads_at p (Some s.attr_data) c
   surface_decoders_at p s no_attributes decoders.0 decoders.1
 
 -- what is made at the end of a stream has its faults at that place

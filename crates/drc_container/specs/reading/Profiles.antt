@@ -1,6 +1,6 @@
 -- What a stream means in a profile that accepts more (this project's choice).
 use Rattle.std.specs.Prelude.{◌≡◌, ◌≤◌, List, ℕ, Ok}
-use Rattle.drc_base.specs.Profile.{Profile, profile_one}
+use Rattle.drc_base.specs.Profile.{Profile, profile_one, profile_numbered}
 use Rattle.drc_container.specs.reading.Meaning.{Meaning}
 use Rattle.drc_container.specs.reading.Stream.{stream, stream_in}
 
@@ -19,3 +19,10 @@ WiderMeansTheSame = (p q : Profile) → IsWider p q → (bytes : List ℕ) (d : 
 -- where a stream is a geometry in profile 1, it means the same one, with the same end
 abbrev pub OldFilesMeanTheSame : Type 0
 OldFilesMeanTheSame = (bytes : List ℕ) (d : Meaning) → stream_in profile_one bytes ≡ Ok d → stream bytes ≡ Ok d
+
+-- where a stream is a geometry in a profile of the limits of decoding, it is the same one in each later profile: also one of profile 2
+-- in profile 3, which has more codings and predictions
+abbrev pub LaterProfilesMeanTheSame : Type 0
+LaterProfilesMeanTheSame =
+    (n m : ℕ) → n ≤ m → (bytes : List ℕ) (d : Meaning)
+    → stream_in (profile_numbered n) bytes ≡ Ok d → stream_in (profile_numbered m) bytes ≡ Ok d

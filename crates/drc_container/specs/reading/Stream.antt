@@ -14,7 +14,8 @@ use Rattle.eb_section.specs.Connectivity.{Connectivity, connectivity_at, declare
 use Rattle.attr_section.specs.declared.decoder_heads.DecoderHead.{DecoderHead}
 use Rattle.attr_section.specs.Heads.{heads_at}
 use Rattle.attr_section.specs.Openings.{heads_opening_at}
-use Rattle.attr_section.specs.Values.{decoder_values_at, values_in}
+use Rattle.attr_section.specs.Positions.{PositionsRead}
+use Rattle.attr_section.specs.Attributes.{decoder_values_at, values_in}
 use Rattle.drc_container.specs.Header.{header_at, cloud_points_at}
 use Rattle.drc_container.specs.Columns.{column_row, cells_at}
 use Rattle.drc_container.specs.declared.headers.Form.{Form}
@@ -24,17 +25,18 @@ use Rattle.drc_container.specs.declared.reading.decoding.PointsRead.{PointsRead}
 use Rattle.drc_container.specs.reading.Meaning.{Meaning, sequential_info, edgebreaker_info}
 use Rattle.drc_container.specs.reading.OnSurface.{attributes_on, assembled_at}
 
--- the attributes of these decoders in turn, for so many entries, behind other attributes
+-- the attributes of these decoders in turn, for so many entries, behind other attributes; without a surface none is predicted from
+-- positions
 unfoldable pub decoders_values_at : Profile → ℕ → Attributes → List DecoderHead → Reading → Item Attributes
 decoders_values_at p entries before [] c = Ok (before, c)
 decoders_values_at p entries before (d ∷ decoders) c =
-    decoder_values_at p None d entries (values_in before.values) c >>= λ x.
+    decoder_values_at p None PositionsRead.NotYet d entries (values_in before.values) c >>= λ x.
     decoders_values_at p entries (record { heads = before.heads ++ x.0.1.heads; values = before.values ++ x.0.0 }) decoders x.1
 
 -- all attributes of a sequential stream: the heads of its decoders, and the values of each decoder in turn
 unfoldable pub sequential_attributes_at : Profile → ℕ → Reading → Item Attributes
 sequential_attributes_at p entries c = do
-  decoders ← heads_at None c
+  decoders ← heads_at p None c
   decoders_values_at p entries (record { heads = []; values = [] }) decoders.0 decoders.1
 
 -- the integers of point i that attributes give

@@ -11,5 +11,5 @@ use Rattle.drc_container.specs.surface.MadeOrders.{AreOrders}
 pub record IsCutFrom (t : Table) (u : CutSurface) : Type 0 where
   pub faces : u.sides.faces ≡ t.faces
   pub pairs : gluing_of u.sides ≡ unseamed (flag_at u.flags.items) (gluing_of t)
-  pub classes : IsLabelled u.sides.faces (gluing_of u.sides) u.classes.of_corner u.classes.count u.classes.ends
-  pub orders : AreOrders u.sides u.classes.of_corner u.orders
+  pub classes : IsLabelled u.sides.faces (gluing_of u.sides) u.classes.value.of_corner u.classes.value.count u.classes.value.ends
+  pub orders : AreOrders u.sides u.classes.value.of_corner u.orders

@@ -9,7 +9,7 @@ use Rattle.mesh_model.specs.SameLaws.{count_of}
 use Rattle.attr_section.specs.declared.values.Values.{Values}
 use Rattle.drc_container.specs.declared.choice.codings.Coding.{Coding}
 use Rattle.drc_container.specs.declared.choice.choices.Choice.{Choice}
-use Rattle.drc_container.specs.choice.Choice.{method_of, is_sequential, is_valence, is_degree, predict_chosen, chosen_code}
+use Rattle.drc_container.specs.choice.Choice.{method_of, is_sequential, is_valence, is_degree, predict_chosen}
 use Rattle.drc_container.specs.writing.Written.{values_of, stream_bytes}
 use Rattle.drc_container.specs.writing.WrittenOnSurface.{traced, decoded, coded_values, edgebreaker_bytes}
 
@@ -30,7 +30,7 @@ coding_of g choice = record {
 -- the values that are coded of each attribute: those of the points in order, or those of the entries of its order
 unfoldable pub values_chosen : Geometry → Choice → List Values
 values_chosen g choice =
-    if is_sequential (method_of g choice) then values_of g (chosen_code g choice)
+    if is_sequential (method_of g choice) then values_of g (predict_chosen g choice)
     else coded_values (coding_of g choice) (decoded (mesh_in g))
 
 -- what is written: the stream, and the rows by which its geometry is the one that was encoded: by the sequential method each face or point

@@ -1,13 +1,14 @@
 -- What is written of a mesh by Edgebreaker: the trace of its surface, and each attribute in a decoder of its own, its values in the order
 -- of a walk over the surface as it is decoded (Draco Bitstream Specification 2.2, sections "Edgebreaker Connectivity" and "Attributes
 -- Decoder"; the pairs, the order of faces and the seams that are written are this project's choice).
-use Rattle.std.specs.Prelude.{ℕ, ◌-◌, ◌==◌, ◌&&◌, Bool, true, not, nat_lt, List, [], ◌∷◌, ◌++◌, length, map, flat_map, reverse, Some}
+use Rattle.std.specs.Prelude.{ℕ, ◌-◌, ◌==◌, ◌&&◌, Bool, true, not, nat_lt, ℤ, pos, List, [], ◌∷◌, ◌++◌, length, map, flat_map, reverse, take, get_or, Some}
 use Rattle.std.specs.Prelude.{if◌then◌else◌}
 use Rattle.std.specs.List.{range_with_len, enumerate_from, list_any}
 use Rattle.attr_heads.specs.declared.heads.Head.{Head}
 use Rattle.mesh_model.specs.declared.geometries.Geometry.TheVariants.{Mesh}
 use Rattle.mesh_model.specs.Parts.{MeshParts}
 use Rattle.mesh_model.specs.Renumbering.{renumbered}
+use Rattle.mesh_model.specs.Groups.{AttrTable}
 use Rattle.corner_table.specs.Sides.{Gluing}
 use Rattle.pairing.specs.Pairing.{pairing}
 use Rattle.pairing.specs.CarriedPairs.{carried}
@@ -18,13 +19,14 @@ use Rattle.seams.specs.Seams.{unseamed}
 use Rattle.seams.specs.SeamBits.{seam_bits}
 use Rattle.seams.specs.Values.{piece, is_seam}
 use Rattle.corner_table.specs.Ordered.{Ordered}
-use Rattle.predict.specs.Schemes.{code_of}
 use Rattle.attr_section.specs.declared.decoder_heads.DecoderHead.{DecoderHead}
 use Rattle.attr_section.specs.declared.values.Values.{Values}
 use Rattle.attr_section.specs.Heads.{position_id, heads_bytes}
+use Rattle.attr_section.specs.Positions.{PositionsRead}
 use Rattle.attr_section.specs.Written.{decoder_values_bytes}
 use Rattle.drc_container.specs.declared.choice.codings.Coding.{Coding}
-use Rattle.drc_container.specs.reading.OnSurface.{ordered_by}
+use Rattle.drc_container.specs.choice.Predicts.{asked}
+use Rattle.drc_container.specs.reading.OnSurface.{ordered_by, positions_from}
 use Rattle.drc_container.specs.writing.Written.{header_bytes}
 
 -- the trace of a mesh's pairs: symbols, events and start bits in the order of the walk, the faces in the order of decoding
@@ -68,14 +70,25 @@ is_by_degree coding d k = coding.degree && not (is_cornered d k)
 unfoldable pub surface_order : Coding → GluedMesh → ℕ → Ordered
 surface_order coding d k = ordered_by (is_by_degree coding d k) (length d.mesh.faces) (cut_of d k)
 
+-- the number of the prediction that is asked of attribute k
+abbrev pub asked_at : Coding → GluedMesh → ℕ → ℤ
+asked_at coding d k = get_or (map (asked coding.predict) d.mesh.heads) k (pos 0)
+
 -- the values of attribute k: of each entry, in the order of the walk
 abbrev pub coded_by : Coding → GluedMesh → ℕ → Values
-coded_by coding d k =
-    record { values = flat_map (piece d.mesh k) (surface_order coding d k).corners; predict = code_of coding.predict; at = 0 }
+coded_by coding d k = record { values = flat_map (piece d.mesh k) (surface_order coding d k).corners; predict = asked_at coding d k; at = 0 }
 
 -- the values of each attribute
 unfoldable pub coded_values : Coding → GluedMesh → List Values
 coded_values coding d = map (coded_by coding d) (range_with_len 0 (length d.mesh.heads))
+
+-- the values of attribute k, with the entry of each corner
+abbrev pub table_by : Coding → GluedMesh → ℕ → AttrTable
+table_by coding d k = record { values = (coded_by coding d k).values; of_corner = (surface_order coding d k).entries }
+
+-- what stands of the positions in front of attribute k: the first attribute of usage 0 among those before it
+unfoldable pub positions_before : Coding → GluedMesh → ℕ → PositionsRead
+positions_before coding d k = positions_from PositionsRead.NotYet (take k d.mesh.heads) (map (table_by coding d) (range_with_len 0 k))
 
 -- the data id of attribute k: the first one has the surface itself, each other one an attribute data of its own
 abbrev pub data_id_of : ℕ → ℕ
@@ -96,7 +109,8 @@ seam_lists d = map (seam_bits_of d) (range_with_len 1 (length d.mesh.heads - 1))
 
 -- the values of attribute k, which has this head
 abbrev pub attribute_bytes : Coding → GluedMesh → ℕ → Head → List ℕ
-attribute_bytes coding d k h = decoder_values_bytes coding.plain (Some (surface_order coding d k)) (h ∷ []) (coded_by coding d k ∷ [])
+attribute_bytes coding d k h =
+    decoder_values_bytes coding.plain (Some (surface_order coding d k)) (positions_before coding d k) (h ∷ []) (coded_by coding d k ∷ [])
 
 -- the values of each attribute in turn
 abbrev pub values_bytes_on : Coding → GluedMesh → List ℕ

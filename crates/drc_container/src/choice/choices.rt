@@ -1,7 +1,7 @@
 //! What is chosen of an encoding.
 
 use crate::choice::methods::Method;
-use predict::Prediction;
+use crate::choice::predicts::Predict;
 
 /// How the faces of a sequential mesh are written.
 #[derive(Clone, Copy, Debug, PartialEq, Eq)]
@@ -32,7 +32,7 @@ pub struct Choice {
     /// How the faces of a sequential mesh are written.
     pub index: Option<Index>,
     /// How values are predicted.
-    pub predict: Option<Prediction>,
+    pub predict: Option<Predict>,
     /// The order of Edgebreaker's entries.
     pub walk: Option<Walk>,
     /// Whether values are written as they are, and not in symbol blocks.

@@ -1,13 +1,13 @@
 //! What a choice says of an encoding.
 
 ghost use Rattle.std.specs.Prelude.{◌≡◌};
-ghost use Rattle.predict.specs.Schemes.{code_of};
 ghost use Rattle.drc_container.specs.choice.Choice.{method_of, is_sequential, is_valence, is_degree, index_of, is_packed, predict_of, predict_chosen};
 ghost use Rattle.drc_container.specs.writing.Chosen.{coding_of};
 
 use crate::choice::choices::{Choice, Index, Walk};
 use crate::choice::codings::Coding;
 use crate::choice::methods::Method;
+use crate::choice::predicts::Predict;
 use mesh_model::GeometryView;
 use predict::Prediction;
 
@@ -63,16 +63,16 @@ pub fn packs(choice: &Choice) -> bool
 }
 
 /// How values are predicted.
-pub fn predict_of(g: &GeometryView<'_>, choice: &Choice) -> Prediction
+pub fn predict_of(g: &GeometryView<'_>, choice: &Choice) -> Predict
     ensures { result ≡ predict_chosen g.now choice.now }
 {
     match choice.predict {
         Some(predict) => predict,
         None => {
             if is_sequential(g, choice) {
-                Prediction::Difference
+                Predict::Plain(Prediction::Difference)
             } else {
-                Prediction::Parallelogram
+                Predict::Plain(Prediction::Parallelogram)
             }
         }
     }

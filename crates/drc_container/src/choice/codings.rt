@@ -1,6 +1,6 @@
 //! How a mesh is coded by Edgebreaker.
 
-use predict::Prediction;
+use crate::choice::predicts::Predict;
 
 /// How a mesh is coded by Edgebreaker.
 #[derive(Clone, Copy, Debug, PartialEq, Eq)]
@@ -10,7 +10,7 @@ pub struct Coding {
     /// Whether entries of vertices are ordered by prediction degree, and not depth first.
     pub degree: bool,
     /// How values are predicted.
-    pub predict: Prediction,
+    pub predict: Predict,
     /// Whether values are written as they are, and not in symbol blocks.
     pub plain: bool,
 }

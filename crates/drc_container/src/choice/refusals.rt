@@ -1,11 +1,13 @@
 //! Which geometries and choices are refused.
 
-ghost use Rattle.std.specs.Prelude.{◌≡◌, position, not};
+ghost use Rattle.std.specs.Prelude.{◌≡◌, ◌<◌, ◌&&◌, length, position, not};
+ghost use Rattle.std.specs.List.{zip};
 ghost use Rattle.attr_heads.specs.FirstFault.{Tests, unless};
 ghost use Rattle.mesh_model.specs.Contents.{heads_in};
 ghost use Rattle.attr_section.specs.Values.{can_wrap};
-ghost use Rattle.attr_section.specs.Written.{range_of};
-ghost use Rattle.drc_container.specs.choice.Refused.{choice_fault, empty_fault, position_fault, early_fault, chooses_surface, begins_with_position, spans_fault, predicted_range_fault};
+ghost use Rattle.attr_section.specs.WrittenParts.{range_of};
+ghost use Rattle.drc_container.specs.choice.CanCode.{wraps};
+ghost use Rattle.drc_container.specs.choice.Refused.{choice_fault, empty_fault, position_fault, early_fault, chooses_surface, begins_with_position, range_fault};
 
 use crate::choice::choices::Choice;
 use crate::choice::choosing::is_sequential;
@@ -32,7 +34,7 @@ fn chooses_surface(choice: &Choice) -> bool
 {
     match choice.predict {
         None => false,
-        Some(prediction) => prediction.facts().needs_surface,
+        Some(predict) => predict.plain().facts().needs_surface,
     }
 }
 
@@ -110,30 +112,36 @@ fn can_wrap(values: &[i32]) -> bool
     can_wrap_between(low, high)
 }
 
-/// The first attribute whose values can't be predicted.
-fn first_wide(values: &[Values]) -> Option<usize>
-    ensures { result ≡ position (λ v. not (can_wrap (range_of v.values))) values.now }
+/// Whether corrections of values of this prediction wrap in their range: those in a square don't.
+fn wraps(head: &Head, values: &Values) -> bool
+    ensures { result ≡ wraps head.now values.now }
 {
-    values.iter().position(|v| !can_wrap(v.values.as_slice()))
+    head.octa.is_none() && values.predict != Prediction::Off.code()
 }
 
-/// The fault of the first attribute whose values can't be predicted.
-fn test_spans(values: &[Values]) -> Result<(), Fault>
-    ensures { Tests (spans_fault values.now) result }
+/// Whether values are to be corrected by wrap, and lie too far apart for it.
+fn is_wide(head: &Head, values: &Values) -> bool
+    ensures { result ≡ (wraps head.now values.now && not (can_wrap (range_of values.now.values))) }
 {
-    match first_wide(values) {
+    wraps(head, values) && !can_wrap(values.values.as_slice())
+}
+
+/// The first attribute whose values lie too far apart to be corrected by wrap.
+fn first_wide(heads: &[Head], values: &[Values]) -> Option<usize>
+    ensures { result ≡ position (λ (h, v). wraps h v && not (can_wrap (range_of v.values))) (zip heads.now values.now) }
+{
+    heads
+        .iter()
+        .zip(values.iter())
+        .position(|(h, v)| is_wide(h, v))
+}
+
+/// The fault of the first attribute whose values lie too far apart to be corrected by wrap; each attribute has its head.
+pub fn test_ranges(heads: &[Head], values: &[Values]) -> Result<(), Fault>
+    ensures { Tests (range_fault heads.now values.now) result }
+{
+    match first_wide(heads, values) {
         None => Ok(()),
         Some(at) => Err(Fault::new(Kind::Range, at as u64)),
-    }
-}
-
-/// The fault of the first attribute whose values can't be predicted, where they are corrected.
-pub fn test_ranges(prediction: Prediction, values: &[Values]) -> Result<(), Fault>
-    ensures { Tests (predicted_range_fault prediction values.now) result }
-{
-    if prediction.facts().corrects {
-        test_spans(values)
-    } else {
-        Ok(())
     }
 }

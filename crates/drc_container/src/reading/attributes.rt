@@ -5,12 +5,13 @@ ghost use Rattle.std.specs.Prelude.{◌≡◌, ◌<◌, [], None, Err, IfOk, All
 ghost use Rattle.drc_base.specs.declared.faults.Fault.{Fault as AnyFault};
 ghost use Rattle.drc_base.specs.declared.faults.Refusal.TheVariants as refusal;
 ghost use Rattle.drc_bits.specs.Reading.{Gives};
+ghost use Rattle.attr_section.specs.Orders.{HasCoordinates};
 ghost use Rattle.attr_section.specs.Openings.{heads_opening_at};
-ghost use Rattle.attr_section.specs.Values.{AreColumns};
+ghost use Rattle.attr_section.specs.Attributes.{AreColumns};
 ghost use Rattle.drc_container.specs.reading.Stream.{sequential_attributes_at, decoders_values_at};
 
 use attr_heads::Head;
-use attr_section::{DecoderHead, Values, read_decoder, read_heads};
+use attr_section::{DecoderHead, ReadPositions, Values, read_decoder, read_heads};
 use drc_base::{Profile, Refusal, Sequence};
 use drc_bits::Cursor;
 use std::alloc::Global;
@@ -38,7 +39,7 @@ pub fn read_attributes(
     ensures early { (f : AnyFault) → heads_opening_at None c.old ≡ Err f → result ≡ Err (refusal.Fault f) }
     ensures columns { IfOk result (λ a. AreColumns entries a.heads a.values) }
 {
-    let decoders = read_heads(alloc, c, None)?;
+    let decoders = read_heads(alloc, c, profile, None)?;
     read_decoders(alloc, c, profile, entries, decoders)
 }
 
@@ -50,7 +51,8 @@ fn read_decoders(
     entries: u32,
     decoders: Vec<DecoderHead>,
 ) -> Result<Attributes, Refusal>
-    requires { All (λ d. All (λ h. 0 < h.comps) d.heads) decoders.items }
+    requires some { All (λ d. All (λ h. 0 < h.comps) d.heads) decoders.items }
+    requires squares { All (λ d. All HasCoordinates d.heads) decoders.items }
     ensures attributes { Gives (λ a. a) (decoders_values_at (profile_numbered profile.number) entries (record { heads = []; values = [] }) decoders.items c.old) c.new result }
     ensures columns { IfOk result (λ a. AreColumns entries a.heads a.values) }
 {
@@ -58,7 +60,17 @@ fn read_decoders(
     let mut values = Vec::new(alloc);
     let mut spent: u64 = 0;
     for mut decoder in decoders {
-        let mut read = read_decoder(alloc, c, profile, &mut decoder, entries, None, &mut spent)?;
+        let found = ReadPositions::NotYet;
+        let mut read = read_decoder(
+            alloc,
+            c,
+            profile,
+            &mut decoder,
+            entries,
+            None,
+            found,
+            &mut spent,
+        )?;
         values.append(&mut read)?;
         let mut its_heads = heads_of(decoder);
         heads.append(&mut its_heads)?;

@@ -11,20 +11,25 @@ ghost use Rattle.attr_heads.specs.HeadItems.{HeadPasses};
 ghost use Rattle.walk_order.specs.Orders.{IsOrderOver};
 ghost use Rattle.corner_table.specs.Ordered.{ordered, IsOrdered};
 ghost use Rattle.eb_section.specs.Connectivity.{meaning};
+ghost use Rattle.attr_section.specs.Orders.{HasCoordinates};
+ghost use Rattle.attr_section.specs.TablePositions.{read_in};
 ghost use Rattle.drc_container.specs.reading.OnSurface.{HasSeams, cut_at, seams_of, ordered_by, ordered_for, decoder_on, surface_decoders_at, no_attributes, values_on, attributes_on};
 ghost use Rattle.drc_container.specs.surface.MadeOrders.{IsOrderBy, AreOrders};
 ghost use Rattle.drc_container.specs.surface.CutSurfaces.{IsCutFrom};
 ghost use Rattle.drc_container.specs.reading.AsRead.{classes_of, built_classes, group_over, attributes_over, group_on, decoder_read_on, tables_on, attributes_read_on};
 ghost use Rattle.mesh_model.specs.Groups.{tables_of, HasVertices};
 
+use crate::reading::ahead::Ahead;
+use crate::reading::edgebreaker::classes_lent;
 use crate::reading::info::AttrInfo;
+use crate::reading::positions::positions_among;
 use crate::reading::surface_attributes::{
     AttributesRead, DecoderRead, DecoderValues, add_values, decoder_attributes, with_classes,
 };
-use crate::surface::cut_surfaces::{CutSurface, cut_once};
+use crate::surface::cut_surfaces::{CutSurface, cut_once, kept_again};
 use crate::surface::made_orders::{MadeOrders, order_once};
 use attr_heads::Head;
-use attr_section::{DecoderHead, Ordered, read_decoder, read_heads};
+use attr_section::{DecoderHead, Ordered, ReadPositions, read_decoder, read_heads};
 use corner_table::{Classes, Order, SideTable};
 use drc_base::{Memory, Profile, Refusal, Sequence};
 use drc_bits::Cursor;
@@ -43,13 +48,15 @@ fn read_in_order(
     t: &SideTable,
     labels: &Classes,
     order: &Order,
+    found: ReadPositions<'_>,
     decoder: DecoderHead,
     spent: &mut u64,
 ) -> Result<DecoderRead, Refusal>
     requires order { IsOrderBy t.now labels.now.of_corner decoder.degree order.now }
     requires heads { All HeadPasses decoder.heads }
+    requires squares { All HasCoordinates decoder.heads }
     requires spent { spent.old ≤ most_values }
-    ensures item { Gives (attributes_over labels.now.of_corner) (decoder_on (profile_numbered profile.number) (ordered_by decoder.degree t.now.faces (gluing_of t.now)) decoder spent.old c.old) c.new result }
+    ensures item { Gives (attributes_over labels.now.of_corner) (decoder_on (profile_numbered profile.number) (ordered_by decoder.degree t.now.faces (gluing_of t.now)) (read_in found.entry) decoder spent.old c.old) c.new result }
     ensures spent { IfOk result (λ p. spent.new ≡ spent.old + values_on (tables_of (group_over labels.now.of_corner p.values))) }
     ensures few { IfOk result (λ _. spent.new ≤ most_values) }
     ensures columns { IfOk result (λ p. AreAttrTables (3 * t.now.faces) p.heads (tables_of (group_over labels.now.of_corner p.values))) }
@@ -63,13 +70,22 @@ fn read_in_order(
         order,
     };
     let mut decoder = decoder;
-    let values = read_decoder(alloc, c, profile, &mut decoder, entries, Some(&on), spent)?;
+    let values = read_decoder(
+        alloc,
+        c,
+        profile,
+        &mut decoder,
+        entries,
+        Some(&on),
+        found,
+        spent,
+    )?;
     let attributes = decoder_attributes(alloc, order, decoder, values)?;
     Ok(attributes)
 }
 
 /// Reads the attributes of a decoder, whose values stand on a table's surface with these classes, of which these orders were made;
-/// `spent` grows by the number of its values.
+/// `spent` grows by the number of its values. The order is kept where a later decoder may stand in it again.
 fn read_on_table(
     alloc: Global,
     c: &mut Cursor<'_>,
@@ -77,14 +93,17 @@ fn read_on_table(
     t: &SideTable,
     labels: &Classes,
     orders: &mut MadeOrders,
+    again: bool,
+    found: ReadPositions<'_>,
     decoder: DecoderHead,
     spent: &mut u64,
 ) -> Result<DecoderRead, Refusal>
     requires labels { IsLabelled t.now.faces (gluing_of t.now) labels.now.of_corner labels.now.count labels.now.ends }
     requires orders { AreOrders t.now labels.now.of_corner orders.old }
     requires heads { All HeadPasses decoder.heads }
+    requires squares { All HasCoordinates decoder.heads }
     requires spent { spent.old ≤ most_values }
-    ensures item { Gives (attributes_over labels.now.of_corner) (decoder_on (profile_numbered profile.number) (ordered_by decoder.degree t.now.faces (gluing_of t.now)) decoder spent.old c.old) c.new result }
+    ensures item { Gives (attributes_over labels.now.of_corner) (decoder_on (profile_numbered profile.number) (ordered_by decoder.degree t.now.faces (gluing_of t.now)) (read_in found.entry) decoder spent.old c.old) c.new result }
     ensures spent { IfOk result (λ p. spent.new ≡ spent.old + values_on (tables_of (group_over labels.now.of_corner p.values))) }
     ensures few { IfOk result (λ _. spent.new ≤ most_values) }
     ensures columns { IfOk result (λ p. AreAttrTables (3 * t.now.faces) p.heads (tables_of (group_over labels.now.of_corner p.values))) }
@@ -94,8 +113,10 @@ fn read_on_table(
 {
     let degree = decoder.degree;
     let order = order_once(alloc, t, labels, degree, orders)?;
-    let read = read_in_order(alloc, c, profile, t, labels, &order, decoder, spent)?;
-    orders.keep(degree, order);
+    let read = read_in_order(alloc, c, profile, t, labels, &order, found, decoder, spent)?;
+    if again {
+        orders.keep(degree, order);
+    }
     Ok(read)
 }
 
@@ -108,7 +129,7 @@ fn seams_of<'a>(blocks: &[BitBlock<'a>], id: u8) -> BitBlock<'a>
 }
 
 /// Reads the attributes of a decoder that stand on the stream's surface cut at the seams of a block; `kept` is the surface that
-/// was cut last, and then this one.
+/// was cut last, and then this one, where a later decoder may stand on it again.
 fn read_on_cut(
     alloc: Global,
     c: &mut Cursor<'_>,
@@ -116,13 +137,16 @@ fn read_on_cut(
     t: &SideTable,
     block: BitBlock<'_>,
     kept: &mut Option<CutSurface>,
+    again: bool,
+    found: ReadPositions<'_>,
     decoder: DecoderHead,
     spent: &mut u64,
 ) -> Result<DecoderRead, Refusal>
     requires kept { IfSome kept.old (IsCutFrom t.now) }
     requires heads { All HeadPasses decoder.heads }
+    requires squares { All HasCoordinates decoder.heads }
     requires spent { spent.old ≤ most_values }
-    ensures item { (whole : List ℕ) → Gives (decoder_read_on whole) (decoder_on (profile_numbered profile.number) (ordered_by decoder.degree t.now.faces (cut_at t.now.faces (gluing_of t.now) block.entry)) decoder spent.old c.old) c.new result }
+    ensures item { (whole : List ℕ) → Gives (decoder_read_on whole) (decoder_on (profile_numbered profile.number) (ordered_by decoder.degree t.now.faces (cut_at t.now.faces (gluing_of t.now) block.entry)) (read_in found.entry) decoder spent.old c.old) c.new result }
     ensures spent { IfOk result (λ p. (whole : List ℕ) → spent.new ≡ spent.old + values_on (tables_of (group_on whole p.values))) }
     ensures few { IfOk result (λ _. spent.new ≤ most_values) }
     ensures columns { IfOk result (λ p. (whole : List ℕ) → AreAttrTables (3 * t.now.faces) p.heads (tables_of (group_on whole p.values))) }
@@ -135,13 +159,15 @@ fn read_on_cut(
         c,
         profile,
         &cut.sides,
-        &cut.classes,
+        cut.classes.as_ref(),
         &mut cut.orders,
+        again,
+        found,
         decoder,
         spent,
     )?;
-    let read = with_classes(alloc, alone, &cut.classes)?;
-    *kept = Some(cut);
+    let read = with_classes(alone, &cut.classes)?;
+    *kept = kept_again(again, cut);
     Ok(read)
 }
 
@@ -152,13 +178,16 @@ fn read_on_whole_surface(
     profile: Profile,
     sides: &Built,
     orders: &mut MadeOrders,
+    again: bool,
+    found: ReadPositions<'_>,
     decoder: DecoderHead,
     spent: &mut u64,
 ) -> Result<DecoderRead, Refusal>
     requires heads { All HeadPasses decoder.heads }
+    requires squares { All HasCoordinates decoder.heads }
     requires spent { spent.old ≤ most_values }
     requires orders { AreOrders sides.now.table (built_classes sides.now) orders.old }
-    ensures item { Gives (decoder_read_on (built_classes sides.now)) (decoder_on (profile_numbered profile.number) (ordered_by decoder.degree sides.now.table.faces (gluing_of sides.now.table)) decoder spent.old c.old) c.new result }
+    ensures item { Gives (decoder_read_on (built_classes sides.now)) (decoder_on (profile_numbered profile.number) (ordered_by decoder.degree sides.now.table.faces (gluing_of sides.now.table)) (read_in found.entry) decoder spent.old c.old) c.new result }
     ensures spent { IfOk result (λ p. spent.new ≡ spent.old + values_on (tables_of (group_on (built_classes sides.now) p.values))) }
     ensures few { IfOk result (λ _. spent.new ≤ most_values) }
     ensures columns { IfOk result (λ p. AreAttrTables (3 * sides.now.table.faces) p.heads (tables_of (group_on (built_classes sides.now) p.values))) }
@@ -169,11 +198,14 @@ fn read_on_whole_surface(
     // For the prover alone: the call states that the table is a surface.
     let _faces = table.face_count();
     let labels = sides.classes();
-    read_on_table(alloc, c, profile, table, labels, orders, decoder, spent)
+    read_on_table(
+        alloc, c, profile, table, labels, orders, again, found, decoder, spent,
+    )
 }
 
 /// Reads the attributes of a decoder, on the surface of the stream, of which these orders were made, cut at the seams of the
-/// decoder's attribute data where values belong to corners; `kept` is the surface that was cut last.
+/// decoder's attribute data where values belong to corners; `kept` is the surface that was cut last. What was made of the surface is kept
+/// where a later decoder may stand on it again.
 fn read_on_its_surface(
     alloc: Global,
     c: &mut Cursor<'_>,
@@ -181,15 +213,18 @@ fn read_on_its_surface(
     surface: &EbRead<'_>,
     orders: &mut MadeOrders,
     kept: &mut Option<CutSurface>,
+    again: bool,
+    found: ReadPositions<'_>,
     decoder: DecoderHead,
     spent: &mut u64,
 ) -> Result<DecoderRead, Refusal>
     requires orders { AreOrders surface.now.sides.table (built_classes surface.now.sides) orders.old }
     requires kept { IfSome kept.old (IsCutFrom surface.now.sides.table) }
     requires heads { All HeadPasses decoder.heads }
+    requires squares { All HasCoordinates decoder.heads }
     requires seams { decoder.corner ≡ true → HasSeams (length surface.now.seams) decoder }
     requires spent { spent.old ≤ most_values }
-    ensures item { Gives (decoder_read_on (classes_of (meaning surface.now))) (decoder_on (profile_numbered profile.number) (ordered_for (meaning surface.now) decoder) decoder spent.old c.old) c.new result }
+    ensures item { Gives (decoder_read_on (classes_of (meaning surface.now))) (decoder_on (profile_numbered profile.number) (ordered_for (meaning surface.now) decoder) (read_in found.entry) decoder spent.old c.old) c.new result }
     ensures spent { IfOk result (λ p. spent.new ≡ spent.old + values_on (tables_of (group_on (classes_of (meaning surface.now)) p.values))) }
     ensures few { IfOk result (λ _. spent.new ≤ most_values) }
     ensures columns { IfOk result (λ p. AreAttrTables (3 * surface.now.sides.table.faces) p.heads (tables_of (group_on (classes_of (meaning surface.now)) p.values))) }
@@ -202,9 +237,21 @@ fn read_on_its_surface(
     {
         let block = seams_of(surface.seams.as_slice(), id);
         let table = surface.sides.table();
-        return read_on_cut(alloc, c, profile, table, block, kept, decoder, spent);
+        return read_on_cut(
+            alloc, c, profile, table, block, kept, again, found, decoder, spent,
+        );
     }
-    read_on_whole_surface(alloc, c, profile, &surface.sides, orders, decoder, spent)
+    read_on_whole_surface(
+        alloc,
+        c,
+        profile,
+        &surface.sides,
+        orders,
+        again,
+        found,
+        decoder,
+        spent,
+    )
 }
 
 /// Adds the attributes of a decoder, as they were read, behind those of the decoders before.
@@ -235,6 +282,7 @@ fn read_each(
     decoders: Vec<DecoderHead>,
 ) -> Result<AttributesRead, Refusal>
     requires heads { All (λ d. All HeadPasses d.heads) decoders.items }
+    requires squares { All (λ d. All HasCoordinates d.heads) decoders.items }
     requires seams { All (λ d. d.corner ≡ true → HasSeams (length surface.now.seams) d) decoders.items }
     ensures item { Gives (attributes_read_on (classes_of (meaning surface.now))) (surface_decoders_at (profile_numbered profile.number) (meaning surface.now) no_attributes decoders.items c.old) c.new result }
     ensures columns { IfOk result (λ p. AreAttrTables (3 * surface.now.sides.table.faces) p.heads (tables_on (classes_of (meaning surface.now)) p.decoders)) }
@@ -246,7 +294,10 @@ fn read_each(
     let mut spent: u64 = 0;
     let mut orders = MadeOrders::none();
     let mut kept: Option<CutSurface> = None;
+    let whole = classes_lent(&surface.sides);
+    let mut ahead = Ahead::of(&decoders);
     for decoder in decoders {
+        let again = ahead.pass(&decoder);
         let read = read_on_its_surface(
             alloc,
             c,
@@ -254,6 +305,8 @@ fn read_each(
             surface,
             &mut orders,
             &mut kept,
+            again,
+            positions_among(whole, heads.as_slice(), values.as_slice()),
             decoder,
             &mut spent,
         )?;
@@ -281,7 +334,7 @@ pub fn read_attributes_on(
     ensures tables { IfOk result (λ p. AreTables p.heads (tables_on (classes_of (meaning surface.now)) p.decoders) surface.now.sides.table.faces) }
     ensures vertices { IfOk result (λ p. All (HasVertices (3 * surface.now.sides.table.faces)) (map (group_on (classes_of (meaning surface.now))) p.decoders)) }
 {
-    let decoders = read_heads(alloc, c, Some(surface.attr_data))?;
+    let decoders = read_heads(alloc, c, profile, Some(surface.attr_data))?;
     let attributes = read_each(alloc, c, profile, surface, decoders)?;
     Ok(attributes)
 }

@@ -8,6 +8,8 @@ ghost use Rattle.drc_base.specs.Refusals.{Answers};
 ghost use Rattle.drc_bits.specs.Reading.{Gives};
 ghost use Rattle.drc_container.specs.reading.Meaning.{geometry_read, told_by};
 ghost use Rattle.drc_container.specs.reading.Stream.{stream_in, meaning_in, points_behind, mesh_at, cloud_at, cloud_declared_at, declared_of};
+ghost use Rattle.attr_heads.specs.ProfileHeads.{has_heads};
+ghost use Rattle.mesh_model.specs.Contents.{heads_in};
 ghost use Rattle.mesh_model.specs.Parts.{AreRows, range_fault};
 ghost use Rattle.attr_section.specs.Openings.{heads_opening_at};
 ghost use Rattle.seq_section.specs.Indices.{indices_opening_at, indices_at};
@@ -28,10 +30,12 @@ use std::alloc::Global;
 /// say otherwise. Bytes after the stream's end are ignored. Faults of the header, of the two numbers
 /// and the method of sequential connectivity, of the numbers that Edgebreaker connectivity declares, and of
 /// a cloud's numbers of points, of decoders and of the first one's attributes, come before out of memory.
+/// The profile has the heads of what it reads: before profile 3 no attribute is octahedral.
 #[tactic(auto, unfolding(crate::specs::reading::Stream::stream_in))]
 pub fn decode(alloc: Global, bytes: &[u8], profile: Profile) -> Result<Geometry, Refusal>
     ensures meaning { Answers (λ g. g) (meaning_in (profile_numbered profile.number) bytes.now) result }
     ensures early { (f : AnyFault) → declared_of bytes.now ≡ Err f → result ≡ Err (refusal.Fault f) }
+    ensures heads { IfOk result (λ g. IsTrue (has_heads profile.number (heads_in g))) }
 {
     let mut c = Cursor::new(bytes);
     let form = read_header(&mut c)?;
@@ -55,12 +59,13 @@ fn geometry_alone(read: Result<Decoded, Refusal>) -> Result<Geometry, Refusal>
 }
 
 /// The geometry that a stream means in a profile, the surface of an Edgebreaker mesh, which was rebuilt by links, and
-/// what is known of the stream; or its first fault, as `decode`.
+/// what is known of the stream; or its first fault, as `decode`. The profile has the heads of what it reads.
 #[tactic(auto, unfolding(crate::specs::reading::Stream::stream_in))]
 pub fn decode_whole(alloc: Global, bytes: &[u8], profile: Profile) -> Result<Decoded, Refusal>
     ensures stream { Answers told_by (stream_in (profile_numbered profile.number) bytes.now) result }
     ensures early { (f : AnyFault) → declared_of bytes.now ≡ Err f → result ≡ Err (refusal.Fault f) }
     ensures linked { IfOk result (λ d. IfSome d.sides (λ b. IsTrue b.linked)) }
+    ensures heads { IfOk result (λ d. IsTrue (has_heads profile.number (heads_in d.geometry))) }
 {
     let mut c = Cursor::new(bytes);
     match read_header(&mut c)? {

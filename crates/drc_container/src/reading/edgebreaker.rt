@@ -110,7 +110,7 @@ pub fn read_edgebreaker_mesh(
 }
 
 /// The classes of the corners of a finished surface.
-fn classes_lent(sides: &Built) -> &[u32]
+pub fn classes_lent(sides: &Built) -> &[u32]
     ensures { result.now ≡ built_classes sides.now }
 {
     // For the prover alone: the call states that the table is a surface.

@@ -1,7 +1,7 @@
 //! The points of a sequential stream from the columns of its attributes.
 
 ghost use Rattle.std.specs.Prelude.{◌≡◌, ◌<◌, ◌≤◌, ◌+◌, ◌++◌, map, length, take, drop, IfOk, OnOk};
-ghost use Rattle.attr_section.specs.Values.{AreColumns};
+ghost use Rattle.attr_section.specs.Attributes.{AreColumns};
 ghost use Rattle.drc_container.specs.Columns.{column_row, cells_at};
 
 use attr_heads::Head;

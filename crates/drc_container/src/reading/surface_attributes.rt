@@ -12,19 +12,21 @@ ghost use Rattle.mesh_model.specs.Groups.{tables_of, HasVertices};
 ghost use Rattle.drc_container.specs.reading.AsRead.{attributes_over, group_on, tables_on};
 
 use crate::reading::info::{AttrInfo, attr_infos};
+use crate::surface::shared_classes::SharedClasses;
 use attr_heads::Head;
 use attr_section::{DecoderHead, Values};
 use corner_table::{Classes, Order};
 use drc_base::{Memory, Sequence};
 use mesh_model::AttrGroup;
 use std::alloc::Global;
+use std::rc::Rc;
 
 /// The values of a decoder's attributes, and the vertices at which they stand.
-#[derive(Debug, Drop)]
+#[derive(Drop)]
 pub struct DecoderValues {
     /// The class of each corner of the surface that is cut at the decoder's seams; None where it isn't cut, and the
     /// classes are those of the stream's surface.
-    pub cut: Option<Sequence<u32>>,
+    pub cut: Option<SharedClasses>,
     /// The entry of each class.
     pub entry_of_class: Sequence<u32>,
     /// The values of each attribute, entry after entry.
@@ -32,7 +34,7 @@ pub struct DecoderValues {
 }
 
 /// The attributes of a decoder, as they were read.
-#[derive(Debug, Drop)]
+#[derive(Drop)]
 pub struct DecoderRead {
     /// What each attribute is.
     pub heads: Sequence<Head>,
@@ -43,7 +45,7 @@ pub struct DecoderRead {
 }
 
 /// The attributes on a surface, as they were read.
-#[derive(Debug, Drop)]
+#[derive(Drop)]
 pub struct AttributesRead {
     /// What each attribute is.
     pub heads: Sequence<Head>,
@@ -91,15 +93,11 @@ pub fn decoder_attributes(
     })
 }
 
-/// The attributes of a decoder, over a surface that is cut at its seams, whose corners have these classes; these are copied.
-pub fn with_classes(
-    alloc: Global,
-    read: DecoderRead,
-    classes: &Classes,
-) -> Result<DecoderRead, Memory>
-    ensures { IfOk result (λ p. p ≡ record read { values = record read.values { cut = Some classes.now.of_corner } }) }
+/// The attributes of a decoder, over a surface that is cut at its seams, whose corners have these classes; these are shared.
+pub fn with_classes(read: DecoderRead, classes: &Rc<Classes>) -> Result<DecoderRead, Memory>
+    ensures { IfOk result (λ p. p ≡ record read { values = record read.values { cut = Some classes.now.value.of_corner } }) }
 {
-    let of_corner = Vec::from_slice(alloc, classes.of_corner.as_slice())?;
+    let shared = SharedClasses::of(classes)?;
     let DecoderRead {
         heads,
         values,
@@ -113,7 +111,7 @@ pub fn with_classes(
     Ok(DecoderRead {
         heads,
         values: DecoderValues {
-            cut: Some(Sequence::from_vec(of_corner)),
+            cut: Some(shared),
             entry_of_class,
             values,
         },

@@ -2,7 +2,7 @@
 //! stand on the one that was cut.
 
 ghost use Rattle.std.specs.Prelude.{◌≡◌, IfOk, IfSome};
-ghost use Rattle.corner_table.specs.Table.{gluing_of};
+ghost use Rattle.corner_table.specs.Table.{Table, gluing_of};
 ghost use Rattle.seams.specs.Seams.{AreFlags};
 ghost use Rattle.seams.specs.SeamBits.{flags_of_bits};
 ghost use Rattle.drc_container.specs.surface.CutSurfaces.{IsCutFrom};
@@ -13,16 +13,17 @@ use drc_base::Memory;
 use rans_binary::BitBlock;
 use seams::{classes, read_seams, unseamed};
 use std::alloc::Global;
+use std::rc::Rc;
 
 /// A surface that was cut at seams, and what was made of it.
-#[derive(Debug, Drop)]
+#[derive(Drop)]
 pub struct CutSurface {
     /// Of each side of the surface whether it is a seam.
     pub flags: Vec<bool>,
     /// The surface, cut at them.
     pub sides: SideTable,
-    /// The classes of its corners.
-    pub classes: Classes,
+    /// The classes of its corners, which it shares with the values that stand on it.
+    pub classes: Rc<Classes>,
     /// The orders of its entries that were made.
     pub orders: MadeOrders,
 }
@@ -44,7 +45,7 @@ fn cut_surface(alloc: Global, t: &SideTable, flags: Vec<bool>) -> Result<CutSurf
     ensures flags { IfOk result (λ u. u.flags.items ≡ flags.items) }
 {
     let sides = unseamed(alloc, t, flags.as_slice())?;
-    let classes = classes(alloc, &sides, None)?;
+    let classes = Rc::new(alloc, classes(alloc, &sides, None)?)?;
     Ok(CutSurface {
         flags,
         sides,
@@ -62,6 +63,13 @@ fn take_alike(kept: &mut Option<CutSurface>, flags: &[bool]) -> Option<CutSurfac
         Some(cut) if cut.flags.as_slice() == flags => Some(cut),
         _ => None,
     }
+}
+
+/// A surface that was cut, where it is kept for another decoder; else it is freed.
+pub fn kept_again(again: bool, cut: CutSurface) -> Option<CutSurface>
+    ensures { (t : Table) → IsCutFrom t cut → IfSome result (IsCutFrom t) }
+{
+    if again { Some(cut) } else { None }
 }
 
 /// The surface cut at the seams that the first bits of a block tell: the one that is kept, which is taken out, where it was cut

@@ -3,7 +3,7 @@
 ghost use Rattle.std.specs.Prelude.{◌<◌, ◌^◌, length};
 ghost use Rattle.walk_order.specs.Orders.{IsOrderOver};
 ghost use Rattle.corner_table.specs.Ordered.{ordered, IsOrdered};
-ghost use Rattle.attr_section.specs.Written.{HasFewFlags};
+ghost use Rattle.attr_section.specs.WrittenParts.{HasFewFlags};
 
 use corner_table::{Classes, Order, SideTable};
 

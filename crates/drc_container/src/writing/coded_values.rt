@@ -4,41 +4,42 @@ ghost use Rattle.std.specs.Prelude.{◌≡◌, ◌+◌, ◌++◌, ◌≤◌, ℤ
 ghost use Rattle.std.specs.List.{flat_map};
 ghost use Rattle.attr_heads.specs.Head.{width_of};
 ghost use Rattle.mesh_model.specs.Contents.{heads_in, points_in};
-ghost use Rattle.predict.specs.Schemes.{code_of};
+ghost use Rattle.drc_container.specs.choice.Predicts.{asked};
 ghost use Rattle.drc_container.specs.writing.Written.{values_of};
 
+use crate::choice::predicts::{Predict, asked};
+use attr_heads::Head;
 use attr_section::Values;
 use drc_base::{Memory, Sequence};
 use mesh_model::GeometryView;
-use predict::Prediction;
 use std::alloc::Global;
 
-/// The coded values of each attribute with this prediction: its integers, point after point.
+/// The coded values of each attribute, with the prediction that is asked of it: its integers, point after point.
 pub fn values_of(
     alloc: Global,
     g: &GeometryView<'_>,
-    predict: Prediction,
+    predict: Predict,
 ) -> Result<Vec<Values>, Memory>
-    ensures { IfOk result (λ v. v.items ≡ values_of g.now (code_of predict)) }
+    ensures { IfOk result (λ v. v.items ≡ values_of g.now predict) }
 {
     let mut values = Vec::new(alloc);
     let mut start: usize = 0;
     for head in g.heads() {
         let comps = head.comps as usize;
         let column = column_of(alloc, g, start, comps)?;
-        values.push(predicted_column(predict, column))?;
+        values.push(values_asked(predict, head, column))?;
         start += comps;
     }
     Ok(values)
 }
 
-/// The coded values of an attribute with this prediction, from its integers.
-pub fn predicted_column(predict: Prediction, column: Vec<i32>) -> Values
-    ensures { result ≡ record { values = column.items; predict = code_of predict; at = 0 } }
+/// The coded values of an attribute with this head, with the prediction that is asked of it, from its integers.
+pub fn values_asked(predict: Predict, head: &Head, column: Vec<i32>) -> Values
+    ensures { result ≡ record { values = column.items; predict = asked predict head.now; at = 0 } }
 {
     Values {
         values: Sequence::from_vec(column),
-        predict: predict.code(),
+        predict: asked(predict, head),
         at: 0,
     }
 }

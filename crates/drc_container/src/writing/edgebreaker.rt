@@ -10,9 +10,11 @@ ghost use Rattle.drc_bits.specs.Spells.{Spells};
 ghost use Rattle.attr_heads.specs.FirstFault.{value_unless};
 ghost use Rattle.mesh_model.specs.Same.{Rows};
 ghost use Rattle.pairing.specs.Degenerate.{degenerate_fault};
+ghost use Rattle.drc_base.specs.Profile.{profile_numbered};
 ghost use Rattle.attr_section.specs.Heads.{bare_decoder, heads_at};
 ghost use Rattle.drc_container.specs.choice.Refused.{values_fault};
 ghost use Rattle.drc_container.specs.choice.CanCode.{CanCode};
+ghost use Rattle.drc_container.specs.choice.Predicts.{needed_number};
 ghost use Rattle.drc_container.specs.writing.WrittenOnSurface.{coded_values, decoders_for, decoder_heads_bytes, values_bytes_on};
 ghost use Rattle.drc_container.specs.surface.AttributeSurfaces.{glued_by, glued_on, flag_lists, AreAttributeSurfaces};
 ghost use Rattle.drc_container.specs.writing.Encoded.{due_on_surface, CanCodeSurface, AttributeSpelled, SurfaceSpelled};
@@ -31,7 +33,8 @@ use mesh_model::CornerMesh;
 use std::alloc::Global;
 
 /// Appends the attributes of a mesh over the surfaces that their values stand on. Refusals, the first that applies:
-/// ValueLimit at the number of coded values, Range at the first attribute whose values can't be predicted.
+/// ValueLimit at the number of coded values, Range at the first attribute whose values lie too far apart to be
+/// corrected by wrap.
 fn put_attributes_over(
     alloc: Global,
     out: &mut Vec<u8>,
@@ -42,11 +45,11 @@ fn put_attributes_over(
     requires some { 0 < length s.now.mesh.faces }
     ensures answer { let d = glued_on s.now in
         Answers (λ _. out.new.items) (value_unless (values_fault coding.now d) (out.old.items ++ (decoder_heads_bytes coding.now d ++ values_bytes_on coding.now d))) result }
-    ensures can { OnOk result (CanCode coding.now.predict (coded_values coding.now (glued_on s.now))) }
+    ensures can { OnOk result (CanCode s.now.mesh.heads (coded_values coding.now (glued_on s.now))) }
     ensures heads { let d = glued_on s.now in
-        OnOk result (Spells (heads_at (Some (length d.mesh.heads - 1))) (decoder_heads_bytes coding.now d) (map bare_decoder (decoders_for coding.now d))) }
+        OnOk result (Spells (heads_at (profile_numbered (needed_number coding.now.predict d.mesh.heads)) (Some (length d.mesh.heads - 1))) (decoder_heads_bytes coding.now d) (map bare_decoder (decoders_for coding.now d))) }
     ensures again { let d = glued_on s.now in
-        OnOk result (All (λ (k, h). AttributeSpelled coding.now d k h) (enumerate_from 0 d.mesh.heads)) }
+        OnOk result (All (λ (k, h). AttributeSpelled (needed_number coding.now.predict d.mesh.heads) coding.now d k h) (enumerate_from 0 d.mesh.heads)) }
 {
     let values = values_on(alloc, s, coding)?;
     write_attributes(alloc, out, s, coding, values.as_slice())?;
@@ -54,7 +57,8 @@ fn put_attributes_over(
 }
 
 /// Appends the attributes of a mesh as it is decoded, with the seams of its surface. Refusals, the first that
-/// applies: ValueLimit at the number of coded values, Range at the first attribute whose values can't be predicted.
+/// applies: ValueLimit at the number of coded values, Range at the first attribute whose values lie too far apart to be
+/// corrected by wrap.
 fn put_attributes(
     alloc: Global,
     out: &mut Vec<u8>,
@@ -68,10 +72,10 @@ fn put_attributes(
     requires some { 0 < length mesh.faces }
     ensures answer { let d = glued_by mesh.entry sides in
         Answers (λ _. out.new.items) (value_unless (values_fault coding.now d) (out.old.items ++ (decoder_heads_bytes coding.now d ++ values_bytes_on coding.now d))) result }
-    ensures can { OnOk result (CanCode coding.now.predict (coded_values coding.now (glued_by mesh.entry sides))) }
+    ensures can { OnOk result (CanCode mesh.entry.heads (coded_values coding.now (glued_by mesh.entry sides))) }
     ensures heads { let d = glued_by mesh.entry sides in
-        OnOk result (Spells (heads_at (Some (length mesh.entry.heads - 1))) (decoder_heads_bytes coding.now d) (map bare_decoder (decoders_for coding.now d))) }
-    ensures again { OnOk result (All (λ (k, h). AttributeSpelled coding.now (glued_by mesh.entry sides) k h) (enumerate_from 0 mesh.entry.heads)) }
+        OnOk result (Spells (heads_at (profile_numbered (needed_number coding.now.predict mesh.entry.heads)) (Some (length mesh.entry.heads - 1))) (decoder_heads_bytes coding.now d) (map bare_decoder (decoders_for coding.now d))) }
+    ensures again { OnOk result (All (λ (k, h). AttributeSpelled (needed_number coding.now.predict mesh.entry.heads) coding.now (glued_by mesh.entry sides) k h) (enumerate_from 0 mesh.entry.heads)) }
 {
     let surfaces = surfaces_of(alloc, mesh, sides, flags, coding.degree)?;
     put_attributes_over(alloc, out, &surfaces, coding)

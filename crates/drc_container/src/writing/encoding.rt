@@ -7,11 +7,11 @@ ghost use Rattle.drc_base.specs.Refusals.{Answers};
 ghost use Rattle.attr_heads.specs.FirstFault.{value_unless};
 ghost use Rattle.mesh_model.specs.Renumbering.{plain};
 ghost use Rattle.mesh_model.specs.SameLaws.{count_of};
-ghost use Rattle.drc_container.specs.choice.Choice.{method_of, is_sequential, chosen_code};
+ghost use Rattle.drc_container.specs.choice.Choice.{method_of, is_sequential, predict_chosen};
 ghost use Rattle.drc_container.specs.choice.Refused.{early_fault, face_fault, refused};
 ghost use Rattle.drc_container.specs.writing.Written.{values_of};
 ghost use Rattle.drc_container.specs.writing.Encoded.{encoding_due, CanCodeInOrder, Means};
-ghost use Rattle.drc_container.specs.writing.Layout.{layout_of, layout_chosen};
+ghost use Rattle.drc_container.specs.writing.Layout.{IsLaidOut};
 
 use crate::choice::choices::Choice;
 use crate::choice::choosing::{coding_of, is_sequential, predict_of};
@@ -34,13 +34,19 @@ use std::alloc::Global;
 /// points only what the corners of faces have is kept: the stream's points are the distinct rows of its
 /// corners, a point of no face is dropped, and equal points become one.
 ///
+/// What is chosen of the predictions asks one of each attribute. In place of normals of faces stands the entry before, where there is
+/// no surface or the first position has other components than three; in place of either stands none, where a value isn't in the
+/// canonical spelling of its point; and in place of the projection of texture coordinates stands one parallelogram, where it needs
+/// such positions, or a number of it has no place in 64 bits. The stream is one of profile 2 where no attribute is octahedral
+/// and nothing else is chosen than component by component, and of profile 3 else.
+///
 /// Refusals, the first that applies. `Choice`: at 0 a cloud with Edgebreaker, at 1 an index method
-/// where the method isn't sequential on a mesh, at 2 a prediction by parallelograms and at 3 a walk where
+/// where the method isn't sequential on a mesh, at 2 a prediction over a surface and at 3 a walk where
 /// the method is sequential. `Empty` at 0: no points under the sequential method, no faces else.
 /// `NoPosition` at 0: Edgebreaker, and the first attribute is no position. `Degenerate` at the number of
 /// the first face with two corners at one position: Edgebreaker. `PointLimit` at the number of vertices
 /// of the surface where that is above `MAX_POINTS`: Edgebreaker. `ValueLimit` at the number of coded
-/// values where that is above `MAX_VALUES`. `Range` at the number of the first attribute that is
+/// values where that is above `MAX_VALUES`. `Range` at the number of the first attribute without a square that is
 /// predicted though the greatest of its coded values is 2^31 - 1 or more above the least. `Choice`, `Empty`,
 /// `NoPosition` and `Degenerate` come before out of memory, which never stands in for these.
 pub fn encode(alloc: Global, g: &Geometry, choice: &Choice) -> Result<(Vec<u8>, Renumber), Refusal>
@@ -48,7 +54,7 @@ pub fn encode(alloc: Global, g: &Geometry, choice: &Choice) -> Result<(Vec<u8>, 
     ensures early { (f : AnyFault) → early_fault g.now choice.now ≡ Some f → result ≡ Err (refusal.Fault f) }
     ensures degenerate { (f : AnyFault) → early_fault g.now choice.now ≡ None → face_fault g.now choice.now ≡ Some f → result ≡ Err (refusal.Fault f) }
     ensures means { IfOk result (λ r. Means g.now choice.now r.0.items r.1.rows) }
-    ensures layout { IfOk result (λ r. layout_of r.0.items ≡ Ok (layout_chosen g.now choice.now)) }
+    ensures layout { IfOk result (λ r. IsLaidOut g.now choice.now r.0.items) }
 {
     let view = g.view();
     test_early(&view, choice)?;
@@ -71,7 +77,7 @@ pub fn encode_view(
     ensures answer { Answers (λ r. (r.0.items, r.1.rows)) (encoding_due g.now choice.now) result }
     ensures early { (f : AnyFault) → early_fault g.now choice.now ≡ Some f → result ≡ Err (refusal.Fault f) }
     ensures means { IfOk result (λ r. Means g.now choice.now r.0.items r.1.rows) }
-    ensures layout { IfOk result (λ r. layout_of r.0.items ≡ Ok (layout_chosen g.now choice.now)) }
+    ensures layout { IfOk result (λ r. IsLaidOut g.now choice.now r.0.items) }
 {
     test_early(g, choice)?;
     if is_sequential(g, choice) {
@@ -90,7 +96,7 @@ fn encode_copied(
     requires surface { is_sequential (method_of g.now choice.now) ≡ false }
     ensures answer { Answers (λ r. (r.0.items, r.1.rows)) (encoding_due g.now choice.now) result }
     ensures means { IfOk result (λ r. Means g.now choice.now r.0.items r.1.rows) }
-    ensures layout { IfOk result (λ r. layout_of r.0.items ≡ Ok (layout_chosen g.now choice.now)) }
+    ensures layout { IfOk result (λ r. IsLaidOut g.now choice.now r.0.items) }
 {
     let copy = g.copied(alloc)?;
     encode_on_surface(alloc, &copy, choice)
@@ -106,7 +112,7 @@ fn encode_in_order(
     requires sequential { is_sequential (method_of g.now choice.now) ≡ true }
     ensures answer { Answers (λ r. (r.0.items, r.1.rows)) (encoding_due g.now choice.now) result }
     ensures means { IfOk result (λ r. Means g.now choice.now r.0.items r.1.rows) }
-    ensures layout { IfOk result (λ r. layout_of r.0.items ≡ Ok (layout_chosen g.now choice.now)) }
+    ensures layout { IfOk result (λ r. IsLaidOut g.now choice.now r.0.items) }
 {
     let values = coded_values(alloc, g, choice)?;
     let bytes = write_stream(alloc, g, choice, values)?;
@@ -130,7 +136,7 @@ fn encode_on_surface(
     ensures answer { Answers (λ r. (r.0.items, r.1.rows)) (encoding_due g.now choice.now) result }
     ensures degenerate { (f : AnyFault) → face_fault g.now choice.now ≡ Some f → result ≡ Err (refusal.Fault f) }
     ensures means { IfOk result (λ r. Means g.now choice.now r.0.items r.1.rows) }
-    ensures layout { IfOk result (λ r. layout_of r.0.items ≡ Ok (layout_chosen g.now choice.now)) }
+    ensures layout { IfOk result (λ r. IsLaidOut g.now choice.now r.0.items) }
 {
     match g {
         Geometry::Mesh(mesh) => {
@@ -151,14 +157,14 @@ fn coded_values(
 ) -> Result<Vec<Values>, Refusal>
     requires early { early_fault g.now choice.now ≡ None }
     requires sequential { is_sequential (method_of g.now choice.now) ≡ true }
-    ensures answer { Answers (λ v. v.items) (value_unless (refused g.now choice.now) (values_of g.now (chosen_code g.now choice.now))) result }
+    ensures answer { Answers (λ v. v.items) (value_unless (refused g.now choice.now) (values_of g.now (predict_chosen g.now choice.now))) result }
     ensures can { IfOk result (λ _. CanCodeInOrder g.now choice.now) }
 {
     // For the prover alone: the call states what holds of every geometry.
     let _count = g.point_count();
     let predict = predict_of(g, choice);
     let values = values_of(alloc, g, predict)?;
-    test_ranges(predict, values.as_slice())?;
+    test_ranges(g.heads(), values.as_slice())?;
     Ok(values)
 }
 

@@ -1,7 +1,7 @@
 //! Writing a sequential stream.
 
 ghost use Rattle.drc_base.specs.Profile.{profile};
-ghost use Rattle.std.specs.Prelude.{◌≡◌, ◌≤◌, ◌<◌, ◌++◌, [], ◌∷◌, Ok, IfOk, OnOk, length};
+ghost use Rattle.std.specs.Prelude.{◌≡◌, ◌≤◌, ◌<◌, ◌++◌, [], ◌∷◌, IfOk, OnOk, length};
 ghost use Rattle.drc_bits.specs.Bits.{low_bytes};
 ghost use Rattle.drc_bits.specs.Spells.{Spells};
 ghost use Rattle.drc_base.specs.declared.limits.TheConstants.{MAX_POINTS};
@@ -11,17 +11,17 @@ ghost use Rattle.mesh_model.specs.Renumbering.{plain};
 ghost use Rattle.mesh_model.specs.SameLaws.{count_of};
 ghost use Rattle.mesh_model.specs.Contents.{heads_in, points_in};
 ghost use Rattle.seq_section.specs.Indices.{indices_at};
-ghost use Rattle.drc_container.specs.choice.Choice.{chosen_code, index_of, is_packed};
+ghost use Rattle.drc_container.specs.choice.Choice.{predict_chosen, index_of, is_packed};
 ghost use Rattle.drc_container.specs.Header.{cloud_points_at};
 ghost use Rattle.drc_container.specs.writing.Written.{geometry_type, sequential_connectivity_bytes, sequential_attributes_bytes, decoder_of, values_of, stream_bytes};
 ghost use Rattle.drc_container.specs.writing.Encoded.{CanCodeInOrder, ConnectivitySpelled, AttributesSpelled, Means};
-ghost use Rattle.drc_container.specs.writing.Layout.{layout_of, layout_chosen};
+ghost use Rattle.drc_container.specs.writing.Layout.{IsLaidOut};
 
 use crate::choice::choices::Choice;
 use crate::choice::choosing::packs;
 use crate::headers::{CLOUD, MESH, SEQUENTIAL, put_header};
 use attr_heads::copies_of;
-use attr_section::{DecoderHead, Values, write_decoder, write_heads};
+use attr_section::{DecoderHead, ReadPositions, Values, write_decoder, write_heads};
 use drc_base::{MAX_POINTS, Memory, Sequence};
 use mesh_model::GeometryView;
 use seq_section::write_indices;
@@ -94,14 +94,15 @@ fn put_attributes(
 ) -> Result<(), Memory>
     requires can { CanCodeInOrder g.now choice.now }
     requires sound { ArePoints (heads_in g.now) (points_in g.now) }
-    requires values { values.now ≡ values_of g.now (chosen_code g.now choice.now) }
-    ensures bytes { OnOk result (out.new.items ≡ out.old.items ++ sequential_attributes_bytes choice.now.plain_values g.now (chosen_code g.now choice.now)) }
-    ensures again { OnOk result (AttributesSpelled choice.now.plain_values g.now (chosen_code g.now choice.now)) }
+    requires values { values.now ≡ values_of g.now (predict_chosen g.now choice.now) }
+    ensures bytes { OnOk result (out.new.items ≡ out.old.items ++ sequential_attributes_bytes choice.now.plain_values g.now (predict_chosen g.now choice.now)) }
+    ensures again { OnOk result (AttributesSpelled choice.now.plain_values g.now (predict_chosen g.now choice.now)) }
 {
     let decoders = decoders_of(alloc, g)?;
     write_heads(out, decoders.as_slice(), false)?;
     let plain = choice.plain_values;
-    write_decoder(alloc, out, &decoders[0], values, plain, None)?;
+    let found = ReadPositions::NotYet;
+    write_decoder(alloc, out, &decoders[0], values, plain, None, found)?;
     Ok(())
 }
 
@@ -116,10 +117,10 @@ fn put_stream(
 ) -> Result<(), Memory>
     requires can { CanCodeInOrder g.now choice.now }
     requires sound { ArePoints (heads_in g.now) (points_in g.now) }
-    requires values { values.now ≡ values_of g.now (chosen_code g.now choice.now) }
+    requires values { values.now ≡ values_of g.now (predict_chosen g.now choice.now) }
     ensures bytes { OnOk result (out.new.items ≡ out.old.items ++ stream_bytes g.now choice.now) }
     ensures connectivity { OnOk result (ConnectivitySpelled (is_packed (index_of choice.now)) g.now) }
-    ensures attributes { OnOk result (AttributesSpelled choice.now.plain_values g.now (chosen_code g.now choice.now)) }
+    ensures attributes { OnOk result (AttributesSpelled choice.now.plain_values g.now (predict_chosen g.now choice.now)) }
 {
     put_header(out, geometry_type(g), SEQUENTIAL)?;
     put_connectivity(alloc, out, g, packs(choice))?;
@@ -136,10 +137,10 @@ pub fn write_stream(
     values: Vec<Values>,
 ) -> Result<Vec<u8>, Memory>
     requires can { CanCodeInOrder g.now choice.now }
-    requires values { values.items ≡ values_of g.now (chosen_code g.now choice.now) }
+    requires values { values.items ≡ values_of g.now (predict_chosen g.now choice.now) }
     ensures bytes { IfOk result (λ v. v.items ≡ stream_bytes g.now choice.now) }
     ensures means { IfOk result (λ v. Means g.now choice.now v.items (plain (count_of g.now))) }
-    ensures layout { IfOk result (λ v. layout_of v.items ≡ Ok (layout_chosen g.now choice.now)) }
+    ensures layout { IfOk result (λ v. IsLaidOut g.now choice.now v.items) }
 {
     // For the prover alone: the call states what holds of every geometry.
     let _count = g.point_count();

@@ -6,7 +6,7 @@ ghost use Rattle.attr_heads.specs.FirstFault.{value_unless};
 ghost use Rattle.attr_heads.specs.Head.{width_of};
 ghost use Rattle.corner_table.specs.Sides.{side_at};
 ghost use Rattle.seams.specs.Values.{piece};
-ghost use Rattle.attr_section.specs.Values.{values_in};
+ghost use Rattle.attr_section.specs.Attributes.{values_in};
 ghost use Rattle.drc_container.specs.choice.Refused.{values_fault};
 ghost use Rattle.drc_container.specs.writing.WrittenOnSurface.{coded_values};
 ghost use Rattle.drc_container.specs.surface.AttributeSurfaces.{glued_on, AreAttributeSurfaces};
@@ -15,7 +15,7 @@ use crate::choice::codings::Coding;
 use crate::choice::refusals::{test_ranges, unless};
 use crate::surface::attribute_surfaces::{AttributeSurfaces, surface_at};
 use crate::surface::turned_meshes::TurnedMesh;
-use crate::writing::coded_values::{predicted_column, put_piece};
+use crate::writing::coded_values::{put_piece, values_asked};
 use attr_section::Values;
 use corner_table::side_with;
 use drc_base::{Kind, MAX_VALUES, Memory, Refusal};
@@ -76,14 +76,15 @@ fn columns_on(
         let comps = head.comps as usize;
         let corners = surface_at(s, attr).order.corner_of_entry.as_slice();
         let column = column_at(alloc, &s.mesh, corners, attr, start, comps)?;
-        values.push(predicted_column(coding.predict, column))?;
+        values.push(values_asked(coding.predict, head, column))?;
         start += comps;
     }
     Ok(values)
 }
 
 /// The values of each attribute, in its order. Refusals: ValueLimit at the number of values, before
-/// room is taken for them; Range at the first attribute whose values can't be predicted.
+/// room is taken for them; Range at the first attribute whose values lie too far apart
+/// to be corrected by wrap.
 pub fn values_on(
     alloc: Global,
     s: &AttributeSurfaces<'_>,
@@ -95,6 +96,6 @@ pub fn values_on(
     let count = value_count(s, coding);
     unless(count <= u64::from(MAX_VALUES), Kind::ValueLimit, count)?;
     let values = columns_on(alloc, s, coding)?;
-    test_ranges(coding.predict, values.as_slice())?;
+    test_ranges(s.mesh.heads(), values.as_slice())?;
     Ok(values)
 }

@@ -8,7 +8,7 @@ use Rattle.predict.specs.Restored.{corrections}
 use Rattle.predict.specs.Surfaces.{surface_of, surface_or}
 use Rattle.predict.specs.Foretold.{foretold, marks_of}
 use Rattle.predict.proofs.Restoring.{length-corrections}
-use Rattle.attr_section.specs.Written.{range_of}
+use Rattle.attr_section.specs.WrittenParts.{range_of}
 use Rattle.attr_section.proofs.SpelledIntegers.{range_of-bounds}
 use Rattle.attr_section.proofs.SpelledFlags.{lists_short}
 use Rattle.attr_section.proofs.correcting.corrected_symbols.Goals.{After-wrap_of-wrap}

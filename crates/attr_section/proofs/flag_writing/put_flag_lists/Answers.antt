@@ -1,5 +1,5 @@
 use Rattle.std.proofs.Common.{◌<◌, length, arith, subst}
-use Rattle.attr_section.specs.Written.{flags_bytes, FlagsSpelled}
+use Rattle.attr_section.specs.WrittenParts.{flags_bytes, FlagsSpelled}
 use Rattle.attr_section.proofs.Loops.{appended-more, all-more}
 use Rattle.attr_section.proofs.flag_writing.put_flag_lists.Goals as goal
 

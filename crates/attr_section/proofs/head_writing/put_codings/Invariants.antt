@@ -4,4 +4,4 @@ use Rattle.attr_section.proofs.head_writing.put_codings.Given as goal
 
 abbrev pub invariant-loop-head : goal.invariant-loop-head
 invariant-loop-head l =
-    (l.out.items ≡ l.fn.out.items ++ map (λ h. coding_byte h.dtype) (take l.head-index l.heads))
+    (l.out.items ≡ l.fn.out.items ++ map coding_byte (take l.head-index l.heads))

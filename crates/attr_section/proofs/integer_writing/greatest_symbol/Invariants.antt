@@ -1,5 +1,5 @@
 use Rattle.std.proofs.Common.{◌≡◌, take}
-use Rattle.attr_section.specs.Written.{greatest_symbol}
+use Rattle.attr_section.specs.WrittenParts.{greatest_symbol}
 use Rattle.attr_section.proofs.integer_writing.greatest_symbol.Given as goal
 
 abbrev pub invariant-loop-symbol : goal.invariant-loop-symbol

@@ -12,7 +12,7 @@ use Rattle.predict.specs.Surfaces.{surface_of, surface_or}
 use Rattle.predict.specs.Foretold.{foretold, marks_of}
 use Rattle.predict.proofs.Foretold.{length-marks}
 use Rattle.attr_section.specs.Values.{corrected_at}
-use Rattle.attr_section.specs.Written.{range_of, integers_bytes, flagged_bytes, BehindSpelled}
+use Rattle.attr_section.specs.WrittenParts.{range_of, integers_bytes, flagged_bytes, BehindSpelled}
 use Rattle.attr_section.proofs.SpelledIntegers.{Spells-integers}
 use Rattle.attr_section.proofs.SpelledFlags.{lists_few}
 use Rattle.attr_section.proofs.SpelledCorrections.{Spells-flagged}

@@ -1,5 +1,5 @@
 use Rattle.std.proofs.Common.{◌≡◌, take}
-use Rattle.attr_section.specs.Values.{values_in}
+use Rattle.attr_section.specs.Attributes.{values_in}
 use Rattle.attr_section.proofs.value_reading.values_in.Given as goal
 
 abbrev pub invariant-loop-values : goal.invariant-loop-values

@@ -1,8 +1,6 @@
 -- whole rows for C are whole rows, and the steps give what is due
-use Rattle.std.proofs.Common.{◌≡◌, Ok, map, ◌∙◌, ap}
-use Rattle.attr_heads.specs.declared.heads.Head.{Head}
-use Rattle.drc_c.specs.Heads.{head_meant}
-use Rattle.drc_c.specs.Inputs.{geometry_made, geometry_meant}
+use Rattle.std.proofs.Common.{◌≡◌, Ok}
+use Rattle.drc_c.specs.Inputs.{geometry_meant}
 use Rattle.drc_c.proofs.EarlyFaults.{meant-there}
 use Rattle.drc_c.proofs.EncodedArrays.{encoded-is, encoding-is}
 use Rattle.drc_c.proofs.WholeRows.{rows_whole, answers-exact}
@@ -22,11 +20,11 @@ meant c =
 
 pub returns-clause-answer : goal.returns-clause-answer
 returns-clause-answer c =
-    encoded-is c.args.mesh c.args.heads.now c.args.corners.now c.args.values.now c.args.choice.now c.in_ok-g.g c.in_ok-bytes.bytes.items
-    c.in_ok-bytes.renumber.rows c.in_ok-rows.rows.items (meant (goal.at.returns-clause-answer c).In_ok-rows) c.in_ok-bytes.ensures.answer c.in_ok-rows.ensures
+    encoded-is c.args.profile.number c.args.mesh c.args.heads.now c.args.corners.now c.args.values.now c.args.choice.now c.in_ok-g.g c.in_ok-bytes.bytes.items
+    c.in_ok-bytes.renumber.rows c.in_ok-rows.rows.items (meant (goal.at.returns-clause-answer c).In_ok-rows) c.in_ok-test_profile.ensures c.in_ok-bytes.ensures.answer c.in_ok-rows.ensures
 
 pub returns-clause-means : goal.returns-clause-means
 returns-clause-means c =
-    encoding-is c.args.mesh c.args.heads.now c.args.corners.now c.args.values.now c.args.choice.now c.in_ok-g.g c.in_ok-bytes.bytes.items
-    c.in_ok-bytes.renumber.rows c.in_ok-rows.rows.items (meant (goal.at.returns-clause-means c).In_ok-rows) c.in_ok-bytes.ensures.answer c.in_ok-rows.ensures
+    encoding-is c.args.profile.number c.args.mesh c.args.heads.now c.args.corners.now c.args.values.now c.args.choice.now c.in_ok-g.g c.in_ok-bytes.bytes.items
+    c.in_ok-bytes.renumber.rows c.in_ok-rows.rows.items (meant (goal.at.returns-clause-means c).In_ok-rows) c.in_ok-test_profile.ensures c.in_ok-bytes.ensures.answer c.in_ok-rows.ensures
     c.in_ok-bytes.ensures.means c.in_ok-bytes.ensures.layout

@@ -1,11 +1,12 @@
 -- Meshes in which nothing is at fault and that are too small to meet a limit are refused by no choice that fits.
 use Rattle.std.proofs.Common.{◌≡◌, ℕ, ◌*◌, ◌%◌, ◌<◌, ◌≤◌, Bool, true, false, ltb, leb, ℤ, pos, List, [], ◌∷◌, length, take, drop, get_or, None, inl, inr, refl, sym, ap, ◌∙◌, subst, arith}
-use Rattle.std.specs.Prelude.{◌||◌, not, position, if◌then◌else◌}
-use Rattle.std.specs.List.{All, range_with_len}
+use Rattle.std.specs.Prelude.{◌||◌, ◌&&◌, not, position, if◌then◌else◌}
+use Rattle.std.specs.List.{All, range_with_len, zip}
 use Rattle.std.proofs.lemmas.Bool.{cases_Bool, le-leb, lt-ltb, or_from, or_right, not_from_true}
-use Rattle.std.proofs.lemmas.List.Elements.{All-map, All-weaker, All-get_or, All-take, All-drop}
+use Rattle.std.proofs.lemmas.List.Elements.{All-nil, All-cons, All-head, All-tail, All-map, All-weaker, All-get_or, All-take, All-drop}
 use Rattle.drc_base.specs.declared.kinds.Kind.TheVariants.{Degenerate, Empty, NoPosition, PointLimit, ValueLimit, Range as RangeKind}
 use Rattle.drc_base.specs.declared.limits.TheConstants.{MAX_POINTS, MAX_VALUES}
+use Rattle.attr_heads.specs.declared.heads.Head.{Head}
 use Rattle.mesh_model.specs.declared.geometries.Geometry.TheVariants.{Mesh}
 use Rattle.attr_heads.specs.FirstFault.{at_place}
 use Rattle.mesh_model.specs.Assembled.{same_row}
@@ -21,18 +22,20 @@ use Rattle.pairing.proofs.Least.{least_is_none}
 use Rattle.eb_trace.specs.Trace.{fan_count}
 use Rattle.seams.specs.Values.{piece}
 use Rattle.attr_section.specs.declared.values.Values.{Values}
-use Rattle.attr_section.specs.Values.{can_wrap, values_in}
-use Rattle.attr_section.specs.Written.{range_of}
+use Rattle.attr_section.specs.Values.{can_wrap}
+use Rattle.attr_section.specs.Attributes.{values_in}
+use Rattle.attr_section.specs.WrittenParts.{range_of}
 use Rattle.drc_container.specs.declared.choice.codings.Coding.{Coding}
-use Rattle.predict.specs.declared.schemes.Prediction.{Prediction}
-use Rattle.predict.specs.Schemes.{facts}
+use Rattle.drc_container.specs.declared.choice.predicts.Predict.{Predict}
 use Rattle.drc_container.specs.declared.choice.choices.Choice.{Choice}
-use Rattle.drc_container.specs.choice.Choice.{method_of, is_sequential, predict_chosen, chosen_code}
+use Rattle.drc_container.specs.choice.Choice.{method_of, is_sequential, predict_chosen}
 use Rattle.drc_container.specs.writing.Chosen.{coding_of}
 use Rattle.drc_container.specs.Columns.{columns_of}
-use Rattle.drc_container.specs.writing.Written.{values_of}
+use Rattle.drc_container.specs.choice.Predicts.{asked}
+use Rattle.drc_container.specs.writing.Written.{asked_values, values_of}
 use Rattle.drc_container.specs.writing.WrittenOnSurface.{decoded, surface_order, coded_by, coded_values}
-use Rattle.drc_container.specs.choice.Refused.{begins_with_position, choice_fault, empty_fault, position_fault, early_fault, vertices_fault, limit_fault, spans_fault, predicted_range_fault, coding_fault}
+use Rattle.drc_container.specs.choice.Refused.{begins_with_position, choice_fault, empty_fault, position_fault, early_fault, vertices_fault, limit_fault, range_fault, coding_fault}
+use Rattle.drc_container.specs.choice.CanCode.{wraps}
 use Rattle.drc_container.specs.choice.Encodable.{IsProperFace, IsIn, IsEncodable, EncodableIsEncoded}
 use Rattle.drc_container.proofs.lemmas.choice.FirstRefusals.{refused-later}
 use Rattle.drc_container.proofs.lemmas.surface.Decoded.{decoded-keeps}
@@ -88,26 +91,44 @@ vertices-none m few =
 
 -- ---- the values
 
-spans-none : (values : List Values) → All (λ v. can_wrap (range_of v.values) ≡ true) values → spans_fault values ≡ None
-spans-none values wrap =
-    let far : Values → Bool = λ v. not (can_wrap (range_of v.values)) in
-    let d : Values = record { values = []; predict = pos 0; at = 0 } in
-    let nowhere : position far values ≡ None = position-none far values d (λ k below.
-    not_from_true (can_wrap (range_of (get_or values k d).values)) (All-get_or (λ (v : Values). can_wrap (range_of v.values) ≡ true) values k d below wrap)) in
+-- attributes beside values, all of which can wrap
+beside-heads : (heads : List Head) (values : List Values) → All (λ v. can_wrap (range_of v.values) ≡ true) values
+    → All (λ (h, v). (wraps h v && not (can_wrap (range_of v.values))) ≡ false) (zip heads values)
+beside-heads [] values wrap = All-nil (λ (h, v). (wraps h v && not (can_wrap (range_of v.values))) ≡ false)
+beside-heads (h ∷ heads) [] wrap = All-nil (λ (h, v). (wraps h v && not (can_wrap (range_of v.values))) ≡ false)
+beside-heads (h ∷ heads) (v ∷ values) wrap =
+    let Wraps : Values → Type 0 = λ x. can_wrap (range_of x.values) ≡ true in
+    All-cons (λ (h, v). (wraps h v && not (can_wrap (range_of v.values))) ≡ false) (h, v) (zip heads values)
+    (not-wide (wraps h v) (can_wrap (range_of v.values)) (All-head Wraps v values wrap)) (beside-heads heads values (All-tail Wraps v values wrap))
+  where
+    not-wide : (a b : Bool) → b ≡ true → (a && not b) ≡ false
+    not-wide true b is = not_from_true b is
+    not-wide false b is = refl
+
+range-none : (heads : List Head) (values : List Values) → All (λ v. can_wrap (range_of v.values) ≡ true) values → range_fault heads values ≡ None
+range-none heads values wrap =
+    let far : Head × Values → Bool = λ (h, v). wraps h v && not (can_wrap (range_of v.values)) in
+    let h : Head = record { usage = 0; dtype = 0; comps = 0; normalized = 0; id = 0; quant = None; octa = None } in
+    let d : Head × Values = (h, record { values = []; predict = pos 0; at = 0 }) in
+    let nowhere : position far (zip heads values) ≡ None = position-none far (zip heads values) d (λ k below.
+    All-get_or (λ (h, v). (wraps h v && not (can_wrap (range_of v.values))) ≡ false) (zip heads values) k d below (beside-heads heads values wrap)) in
     ap (at_place RangeKind) nowhere
 
-range-none : (p : Prediction) (values : List Values) → All (λ v. can_wrap (range_of v.values) ≡ true) values → predicted_range_fault p values ≡ None
-range-none p values wrap = elim (cases_Bool (facts p).corrects) [
-  | inl corrects ↦ rw corrects (spans-none values wrap)
-  | inr none ↦ rw none refl
-]
-
 -- the values of the points in order
-points-near : (m : MeshParts) (predict : ℤ) → IsEncodable m → All (λ v. can_wrap (range_of v.values) ≡ true) (values_of (Mesh m) predict)
-points-near m predict is =
+asked-near : (p : Predict) (heads : List Head) (columns : List (List ℤ)) → All (λ values. can_wrap (range_of values) ≡ true) columns
+    → All (λ v. can_wrap (range_of v.values) ≡ true) (asked_values p heads columns)
+asked-near p [] columns near = All-nil (λ v. can_wrap (range_of v.values) ≡ true)
+asked-near p (h ∷ heads) [] near = All-nil (λ v. can_wrap (range_of v.values) ≡ true)
+asked-near p (h ∷ heads) (column ∷ columns) near =
+    let Near : List ℤ → Type 0 = λ values. can_wrap (range_of values) ≡ true in
+    let v : Values = record { values = column; predict = asked p h; at = 0 } in
+    All-cons (λ v. can_wrap (range_of v.values) ≡ true) v (asked_values p heads columns) (All-head Near column columns near)
+    (asked-near p heads columns (All-tail Near column columns near))
+
+points-near : (m : MeshParts) (p : Predict) → IsEncodable m → All (λ v. can_wrap (range_of v.values) ≡ true) (values_of (Mesh m) p)
+points-near m p is =
     let Near : List ℤ → Type 0 = All (IsIn is.range) in
-    let column : List ℤ → Values = λ values. record { values = values; predict = predict; at = 0 } in
-    All-map (λ v. can_wrap (range_of v.values) ≡ true) column (columns_of m.heads m.points)
+    asked-near p m.heads (columns_of m.heads m.points)
     (All-weaker Near (λ values. can_wrap (range_of values) ≡ true) (λ values near. can-wrap is.range values is.can_wrap near) (columns_of m.heads m.points)
     (columns-keep (IsIn is.range) m.heads m.points is.near))
 
@@ -150,16 +171,16 @@ coding-none : (m : MeshParts) (coding : Coding) → IsEncodable m → coding_fau
 coding-none m coding is =
     let proper = degenerate-none m is.proper in
     let values = coded_values coding (decoded m) in
-    first_fault-cons (degenerate_fault m) (vertices_fault m ∷ limit_fault values ∷ predicted_range_fault coding.predict values ∷ []) proper
-    (first_fault-cons (vertices_fault m) (limit_fault values ∷ predicted_range_fault coding.predict values ∷ []) (vertices-none m is.few_corners)
-    (first_fault-cons (limit_fault values) (predicted_range_fault coding.predict values ∷ []) (limit-none m coding is proper)
-    (first_fault-cons (predicted_range_fault coding.predict values) [] (range-none coding.predict values (entries-near m coding is proper)) refl)))
+    first_fault-cons (degenerate_fault m) (vertices_fault m ∷ limit_fault values ∷ range_fault m.heads values ∷ []) proper
+    (first_fault-cons (vertices_fault m) (limit_fault values ∷ range_fault m.heads values ∷ []) (vertices-none m is.few_corners)
+    (first_fault-cons (limit_fault values) (range_fault m.heads values ∷ []) (limit-none m coding is proper)
+    (first_fault-cons (range_fault m.heads values) [] (range-none m.heads values (entries-near m coding is proper)) refl)))
 
 pub encodable-encoded : EncodableIsEncoded
 encodable-encoded m choice is fits =
     let early = early-none m choice is fits in
-    let number = chosen_code (Mesh m) choice in
+    let p = predict_chosen (Mesh m) choice in
     elim (cases_Bool (is_sequential (method_of (Mesh m) choice))) [
-      | inl on ↦ refused-later (Mesh m) choice is.mesh.points early on ∙ range-none (predict_chosen (Mesh m) choice) (values_of (Mesh m) number) (points-near m number is)
+      | inl on ↦ refused-later (Mesh m) choice is.mesh.points early on ∙ range-none m.heads (values_of (Mesh m) p) (points-near m p is)
       | inr off ↦ refused-on_surface m choice early off ∙ coding-none m (coding_of (Mesh m) choice) is
     ]

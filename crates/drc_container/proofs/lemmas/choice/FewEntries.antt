@@ -21,7 +21,7 @@ use Rattle.walk_order.specs.OfSurface.{fan_labels, fans_of}
 use Rattle.walk_order.proofs.Labels.{surface_is_labelled}
 use Rattle.walk_order.proofs.Surfaces.{few_labels}
 use Rattle.eb_trace.specs.Trace.{fan_count}
-use Rattle.attr_section.specs.Values.{values_in}
+use Rattle.attr_section.specs.Attributes.{values_in}
 use Rattle.drc_container.specs.declared.choice.codings.Coding.{Coding}
 use Rattle.drc_container.specs.reading.OnSurface.{order_by}
 use Rattle.drc_container.specs.writing.WrittenOnSurface.{GluedMesh, cut_of, is_by_degree, surface_order, coded_by, coded_values}

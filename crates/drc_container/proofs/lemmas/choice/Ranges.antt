@@ -8,7 +8,7 @@ use Rattle.std.proofs.lemmas.List.Elements.{All-nil, All-cons, All-head, All-tai
 use Rattle.attr_heads.specs.declared.heads.Head.{Head}
 use Rattle.predict.specs.Wrap.{Range, CanWrap}
 use Rattle.attr_section.specs.Values.{can_wrap}
-use Rattle.attr_section.specs.Written.{range_of}
+use Rattle.attr_section.specs.WrittenParts.{range_of}
 use Rattle.drc_container.specs.Columns.{columns_of}
 use Rattle.drc_container.specs.choice.Encodable.{IsIn}
 

@@ -11,11 +11,11 @@ use Rattle.attr_heads.specs.FirstFault.{first_fault, value_unless}
 use Rattle.pairing.specs.Degenerate.{degenerate_fault}
 use Rattle.drc_container.specs.declared.choice.codings.Coding.{Coding}
 use Rattle.drc_container.specs.declared.choice.choices.Choice.{Choice}
-use Rattle.drc_container.specs.choice.Choice.{method_of, is_sequential, predict_chosen, chosen_code}
+use Rattle.drc_container.specs.choice.Choice.{method_of, is_sequential, predict_chosen}
 use Rattle.drc_container.specs.writing.Written.{values_of, stream_bytes}
 use Rattle.drc_container.specs.writing.WrittenOnSurface.{traced, decoded, coded_values, edgebreaker_bytes}
 use Rattle.drc_container.specs.writing.Chosen.{coding_of, values_chosen, written}
-use Rattle.drc_container.specs.choice.Refused.{early_fault, vertices_fault, surface_fault, limit_fault, predicted_range_fault, refused, tracing_fault, coding_fault}
+use Rattle.drc_container.specs.choice.Refused.{early_fault, vertices_fault, surface_fault, limit_fault, range_fault, refused, tracing_fault, coding_fault}
 use Rattle.drc_container.specs.writing.Encoded.{encoding_due, due_on_surface}
 use Rattle.drc_container.proofs.lemmas.choice.FirstRefusals.{early_passes}
 
@@ -48,7 +48,7 @@ values-on_surface : (m : MeshParts) (choice : Choice) → is_sequential (method_
     → values_chosen (Mesh m) choice ≡ coded_values (coding_of (Mesh m) choice) (decoded m)
 unfolding values_chosen
 values-on_surface m choice off =
-    ap (λ b. if b then values_of (Mesh m) (chosen_code (Mesh m) choice) else coded_values (coding_of (Mesh m) choice) (decoded m)) off
+    ap (λ b. if b then values_of (Mesh m) (predict_chosen (Mesh m) choice) else coded_values (coding_of (Mesh m) choice) (decoded m)) off
 
 fault-on_surface : (m : MeshParts) (choice : Choice) → is_sequential (method_of (Mesh m) choice) ≡ false → surface_fault (Mesh m) choice ≡ tracing_fault m
 unfolding surface_fault
@@ -59,13 +59,13 @@ pub refused-on_surface : (m : MeshParts) (choice : Choice) → early_fault (Mesh
     → refused (Mesh m) choice ≡ coding_fault (coding_of (Mesh m) choice) m
 unfolding refused
 refused-on_surface m choice none off =
-    let p = predict_chosen (Mesh m) choice in
+    let hs = m.heads in
     let chosen = values_chosen (Mesh m) choice in
     let vs = coded_values (coding_of (Mesh m) choice) (decoded m) in
-    ap (λ x. first_fault (x ∷ surface_fault (Mesh m) choice ∷ limit_fault chosen ∷ predicted_range_fault p chosen ∷ [])) none
-    ∙ ap (λ x. first_fault (x ∷ limit_fault chosen ∷ predicted_range_fault p chosen ∷ [])) (fault-on_surface m choice off)
-    ∙ ap (λ values. first_fault (tracing_fault m ∷ limit_fault values ∷ predicted_range_fault p values ∷ [])) (values-on_surface m choice off)
-    ∙ first_fault-join (degenerate_fault m) (vertices_fault m) (limit_fault vs ∷ predicted_range_fault p vs ∷ [])
+    ap (λ x. first_fault (x ∷ surface_fault (Mesh m) choice ∷ limit_fault chosen ∷ range_fault hs chosen ∷ [])) none
+    ∙ ap (λ x. first_fault (x ∷ limit_fault chosen ∷ range_fault hs chosen ∷ [])) (fault-on_surface m choice off)
+    ∙ ap (λ values. first_fault (tracing_fault m ∷ limit_fault values ∷ range_fault hs values ∷ [])) (values-on_surface m choice off)
+    ∙ first_fault-join (degenerate_fault m) (vertices_fault m) (limit_fault vs ∷ range_fault hs vs ∷ [])
 
 -- what is due of it
 pub is-due-on_surface : (m : MeshParts) (choice : Choice) → early_fault (Mesh m) choice ≡ None → is_sequential (method_of (Mesh m) choice) ≡ false

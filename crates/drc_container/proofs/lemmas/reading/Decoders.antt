@@ -9,14 +9,15 @@ use Rattle.drc_bits.specs.Reading.{Reading, Item}
 use Rattle.attr_heads.specs.declared.heads.Head.{Head}
 use Rattle.attr_section.specs.declared.decoder_heads.DecoderHead.{DecoderHead}
 use Rattle.attr_section.specs.declared.values.Values.{Values}
-use Rattle.attr_section.specs.Values.{decoder_values_at, values_in}
+use Rattle.attr_section.specs.Positions.{PositionsRead}
+use Rattle.attr_section.specs.Attributes.{decoder_values_at, values_in}
 use Rattle.drc_container.specs.declared.reading.attributes.Attributes.{Attributes}
 use Rattle.drc_container.specs.reading.Stream.{decoders_values_at}
 
 -- the next decoder was read
 pub decoders_at-next : (p : Profile) (n : ℕ) (heads : List Head) (values new : List Values) (d e : DecoderHead) (ds rest : List DecoderHead) (c next : Reading) (whole : Item Attributes)
     → decoders_values_at p n (record { heads = heads; values = values }) ds c ≡ whole → ds ≡ d ∷ rest
-    → decoder_values_at p None d n (values_in values) c ≡ Ok ((new, e), next)
+    → decoder_values_at p None PositionsRead.NotYet d n (values_in values) c ≡ Ok ((new, e), next)
     → decoders_values_at p n (record { heads = heads ++ e.heads; values = values ++ new }) rest next ≡ whole
 unfolding decoders_values_at
 decoders_at-next p n heads values new d e ds rest c next whole so is read = sym (rw (is, read) refl) ∙ so
@@ -24,7 +25,7 @@ decoders_at-next p n heads values new d e ds rest c next whole so is read = sym 
 -- the next decoder is refused
 pub decoders_at-refuses : (p : Profile) (n : ℕ) (heads : List Head) (values : List Values) (d : DecoderHead) (ds rest : List DecoderHead) (c : Reading) (r : Refusal) (whole : Item Attributes)
     → decoders_values_at p n (record { heads = heads; values = values }) ds c ≡ whole → ds ≡ d ∷ rest
-    → Refuses (decoder_values_at p None d n (values_in values) c) r → Refuses whole r
+    → Refuses (decoder_values_at p None PositionsRead.NotYet d n (values_in values) c) r → Refuses whole r
 unfolding decoders_values_at
 decoders_at-refuses p n heads values d ds rest c refusal.Memory whole so is refuses = tt
 decoders_at-refuses p n heads values d ds rest c (refusal.Fault f) whole so is refuses = sym so ∙ rw (is, refuses) refl

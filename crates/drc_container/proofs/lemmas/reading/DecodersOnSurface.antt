@@ -11,18 +11,18 @@ use Rattle.corner_table.specs.Table.{Table, gluing_of}
 use Rattle.rans_binary.specs.Blocks.{Block}
 use Rattle.attr_section.specs.declared.decoder_heads.DecoderHead.{DecoderHead}
 use Rattle.eb_section.specs.Connectivity.{Connectivity}
-use Rattle.drc_container.specs.reading.OnSurface.{SurfaceAttributes, seams_of, cut_at, ordered_by, ordered_for, attributes_joined, values_on, decoder_on, surface_decoders_at}
+use Rattle.drc_container.specs.reading.OnSurface.{SurfaceAttributes, seams_of, cut_at, ordered_by, ordered_for, attributes_joined, values_on, positions_among, decoder_on, surface_decoders_at}
 
 -- the next decoder was read
 pub surface_decoders_at-next : (p : Profile) (s : Connectivity) (before x : SurfaceAttributes) (d : DecoderHead) (ds rest : List DecoderHead) (c next : Reading) (whole : Item SurfaceAttributes)
-    → surface_decoders_at p s before ds c ≡ whole → ds ≡ d ∷ rest → decoder_on p (ordered_for s d) d (values_on before.tables) c ≡ Ok (x, next)
+    → surface_decoders_at p s before ds c ≡ whole → ds ≡ d ∷ rest → decoder_on p (ordered_for s d) (positions_among before) d (values_on before.tables) c ≡ Ok (x, next)
     → surface_decoders_at p s (attributes_joined before x) rest next ≡ whole
 unfolding surface_decoders_at
 surface_decoders_at-next p s before x d ds rest c next whole so is read = sym (rw (is, read) refl) ∙ so
 
 -- the next decoder is refused
 pub surface_decoders_at-refuses : (p : Profile) (s : Connectivity) (before : SurfaceAttributes) (d : DecoderHead) (ds rest : List DecoderHead) (c : Reading) (r : Refusal) (whole : Item SurfaceAttributes)
-    → surface_decoders_at p s before ds c ≡ whole → ds ≡ d ∷ rest → Refuses (decoder_on p (ordered_for s d) d (values_on before.tables) c) r
+    → surface_decoders_at p s before ds c ≡ whole → ds ≡ d ∷ rest → Refuses (decoder_on p (ordered_for s d) (positions_among before) d (values_on before.tables) c) r
     → Refuses whole r
 unfolding surface_decoders_at
 surface_decoders_at-refuses p s before d ds rest c refusal.Memory whole so is refuses = tt

@@ -1,15 +1,15 @@
--- Heads of attributes that were read have no fault, with the quantisations that were read behind them.
-use Rattle.std.proofs.Common.{◌≡◌, ℕ, suc, ◌+◌, ◌≤◌, Bool, true, false, List, [], ◌∷◌, ◌++◌, length, map, Option, None, Some, Ok, refl, sym, ◌∙◌, ap, subst, arith, append-nil, append_assoc, length-append, replicate}
-use Rattle.std.specs.Prelude.{◌==◌, ◌&&◌, ◌||◌, nat_lt, nat_le}
-use Rattle.std.specs.List.{All, range_with_len}
-use Rattle.std.proofs.lemmas.Bool.{leb-true, ltb-true, le-leb, eq-eqb, and_parts, and_from}
-use Rattle.std.proofs.Math.Bool.{or-false}
-use Rattle.std.proofs.lemmas.List.{length-replicate, map-append}
+-- Heads of attributes that were read have no fault, with the quantisations and the squares that were read behind them.
+use Rattle.std.proofs.Common.{◌≡◌, ℕ, suc, ◌+◌, ◌≤◌, Bool, true, false, List, [], ◌∷◌, ◌++◌, length, get_or, Option, None, Some, is_some, Ok, refl, sym, ◌∙◌, ap, subst, arith, lit≤, length-append, replicate}
+use Rattle.std.specs.Prelude.{◌==◌, ◌&&◌, nat_lt, nat_le}
+use Rattle.std.specs.List.{All, list_all, range_with_len}
+use Rattle.std.proofs.lemmas.Bool.{leb-true, ltb-true, le-leb, eq-eqb, and_parts, and_from, false≢true}
+use Rattle.std.proofs.lemmas.List.{length-replicate}
 use Rattle.std.proofs.lemmas.List.FromFn.{length-range_with_len}
 use Rattle.std.proofs.lemmas.List.Sums.{sum_by-cons, sum_by-append}
 use Rattle.std.proofs.lemmas.List.Elements.{All-nil, All-cons, All-head, All-tail, All-append}
 use Rattle.drc_base.specs.declared.kinds.Kind.TheVariants as kind
 use Rattle.drc_base.specs.declared.limits.TheConstants.{MAX_ATTRIBUTES, MAX_COMPONENTS}
+use Rattle.drc_base.specs.Profile.{Profile}
 use Rattle.drc_base.specs.Steps.{◌>>=◌}
 use Rattle.drc_bits.specs.Reading.{Reading, Item, must, many_at}
 use Rattle.drc_bits.specs.Numbers.{number_at}
@@ -18,7 +18,13 @@ use Rattle.drc_bits.proofs.Results.{Ok-injective}
 use Rattle.attr_heads.specs.declared.heads.Head.{Head}
 use Rattle.attr_heads.specs.declared.quants.Quant.{Quant}
 use Rattle.attr_heads.specs.Quants.{has_minima, has_bits}
+use Rattle.attr_heads.specs.declared.codings.Coding.{Coding}
+use Rattle.attr_heads.specs.declared.codings.Coding.TheVariants.{Generic, Integer, Quantised, Octahedral}
+use Rattle.attr_heads.specs.Bounds.{in_bounds}
+use Rattle.attr_heads.specs.Octahedra.{are_octahedral_bits, has_square_bits, has_coordinates, square_bounds}
+use Rattle.attr_heads.specs.Codings.{coding_facts, codes_type, has_fixed, goes_with, coded}
 use Rattle.attr_heads.specs.Head.{has_type, head_fault, each_fault, heads_fault}
+use Rattle.attr_heads.proofs.Passing.{HeadSays}
 use Rattle.attr_heads.proofs.FirstFaults.{unless-true, first_fault-cons}
 use Rattle.attr_section.specs.declared.decoder_heads.DecoderHead.{DecoderHead}
 use Rattle.attr_section.specs.declared.links.Link.{Link}
@@ -27,14 +33,29 @@ use Rattle.attr_heads.specs.DataTypes.{is_type, is_float}
 use Rattle.attr_heads.specs.HeadItems.{head_at, HeadPasses}
 use Rattle.attr_heads.proofs.Types.{integer_type}
 use Rattle.attr_heads.proofs.HeadsBack.{head_passed}
-use Rattle.attr_section.specs.Heads.{codings_at, attributes_of, attribute_count_at, decoder_at, decoders_at, decoder_count_at, link_at, linked_at, links_at, no_link, heads_at}
-use Rattle.attr_heads.specs.HeadItems.{quant_bits_at}
-use Rattle.attr_section.specs.Values.{quant_at, quant_of_at, quantised_at, quants_at}
-use Rattle.drc_container.proofs.lemmas.reading.Parted.{given, parts, either, must-passed, many-passed}
+use Rattle.attr_section.specs.declared.values.Values.{Values}
+use Rattle.attr_section.specs.Orders.{HasCoordinates}
+use Rattle.attr_section.specs.Heads.{known_coding_at, coding_at, coded_at, codings_at, attributes_of, attribute_count_at, decoder_at, decoders_at, decoder_count_at, link_at, linked_at, links_at, no_link, heads_at}
+use Rattle.attr_heads.specs.HeadItems.{quant_bits_at, square_bits_at}
+use Rattle.attr_section.specs.Attributes.{quant_at, quant_of_at, quantised_at, squared_at, completed_at, no_values, next_completed_at, quants_at}
+use Rattle.drc_container.proofs.lemmas.reading.Parted.{given, parts, passed, either, must-passed, many-passed}
+use Rattle.drc_container.proofs.lemmas.reading.Linked.{each-passed}
 
--- a quantisation that fits a head
+-- items of which each may depend on those before it: as many as there are to read
+pub each-counted : {A B : Type 0} (item : List A → B → Reading → Item A) (front : List A) (bs : List B) (c : Reading) (y : List A × Reading)
+    → each_at item front bs c ≡ Ok y → length y.0 ≡ length front + length bs
+unfolding each_at
+each-counted {A} {B} item front [] c y is =
+    let same : length front ≡ length front + 0 = omega arith in
+    given (λ (z : List A × Reading). length z.0 ≡ length front + 0) (front, c) y is same
+each-counted {A} {B} item front (b ∷ bs) c y is =
+    let p = parts (item front b c) (λ x. each_at item (front ++ x.0 ∷ []) bs x.1) y is in
+    let rest = each-counted item (front ++ p.0.0 ∷ []) bs p.0.1 y p.2 in
+    rest ∙ omega (arith, length-append front (p.0.0 ∷ []))
+
+-- a quantisation that fits a head without a square
 record QuantFits (h : Head) (q : Option Quant) : Type 0 where
-  type_fits : has_type h.dtype q ≡ true
+  type_fits : has_type h.dtype q None ≡ true
   minima : has_minima h.comps q ≡ true
   bits : has_bits q ≡ true
 
@@ -63,79 +84,142 @@ quant_fits h is_type c y is =
 abbrev pub IsHead : Head → Type 0
 IsHead h = (k : ℕ) → head_fault k h ≡ None
 
-is_head : (h : Head) (q : Option Quant) → HeadPasses h → QuantFits h q → IsHead (record h { quant = q })
-is_head h q passes fits k =
-    let comps = and_from (nat_le 1 h.comps && nat_le h.comps MAX_COMPONENTS) (has_minima h.comps q)
-    (and_from (nat_le 1 h.comps) (nat_le h.comps MAX_COMPONENTS) (le-leb 1 h.comps passes.some) (le-leb h.comps MAX_COMPONENTS passes.few)) fits.minima in
-    first_fault-cons _ _ (unless-true _ kind.AttrType k (le-leb h.usage 4 passes.usage))
-    (first_fault-cons _ _ (unless-true _ kind.DataType k fits.type_fits)
+-- where all is as it is to be, there is no fault
+says-none : (h : Head) → HeadSays h → IsHead h
+says-none h says k =
+    let comps = and_from (nat_le 1 h.comps && nat_le h.comps MAX_COMPONENTS) (has_minima h.comps h.quant && has_coordinates h.comps h.octa)
+    (and_from (nat_le 1 h.comps) (nat_le h.comps MAX_COMPONENTS) (le-leb 1 h.comps says.some) (le-leb h.comps MAX_COMPONENTS says.few))
+    (and_from (has_minima h.comps h.quant) (has_coordinates h.comps h.octa) says.minima says.coordinates) in
+    let bits = and_from (has_bits h.quant) (has_square_bits h.octa) says.bits says.square in
+    first_fault-cons _ _ (unless-true _ kind.AttrType k (le-leb h.usage 4 says.usage))
+    (first_fault-cons _ _ (unless-true _ kind.DataType k says.typed)
     (first_fault-cons _ _ (unless-true _ kind.Components k comps)
-    (first_fault-cons _ [] (unless-true _ kind.QuantBits k fits.bits) refl)))
+    (first_fault-cons _ [] (unless-true _ kind.QuantBits k bits) refl)))
 
--- the components and the data type of each head
-abbrev pub shapes : List Head → List (ℕ × ℕ)
-shapes heads = map (λ h. (h.comps, h.dtype)) heads
+-- a head by its coding: with a square it codes floats, and has two integers a point
+pub record IsCoded (h : Head) : Type 0 where
+  pub passes : HeadPasses h
+  pub coordinates : HasCoordinates h
+  pub float : is_some h.octa ≡ true → is_float h.dtype ≡ true
 
--- these heads have no fault, and their components and types are those
-pub record AreHeads (shape : List (ℕ × ℕ)) (heads : List Head) : Type 0 where
-  pub each : All IsHead heads
-  pub same : shapes heads ≡ shape
-
-quantised-passed : (h : Head) → HeadPasses h → (c : Reading) (y : Head × Reading) → quantised_at h c ≡ Ok y
-    → AreHeads ((h.comps, h.dtype) ∷ []) (y.0 ∷ [])
-unfolding quantised_at
-quantised-passed h passes c y is =
-    let p = parts (quant_of_at h c) (λ q. Ok (record h { quant = q.0 }, q.1)) y is in
-    let o : Head = record h { quant = p.0.0 } in
-    given (λ (z : Head × Reading). AreHeads ((h.comps, h.dtype) ∷ []) (z.0 ∷ [])) (o, p.0.1) y p.2
-    (record { each = All-cons IsHead o [] (is_head h p.0.0 passes (quant_fits h passes.dtype c p.0 p.1)) (All-nil IsHead); same = refl })
-
-pub AreHeads-append : (s t : List (ℕ × ℕ)) (heads others : List Head) → AreHeads s heads → AreHeads t others
-    → AreHeads (s ++ t) (heads ++ others)
-AreHeads-append s t heads others are also = record {
-  each = All-append IsHead heads others are.each also.each;
-  same = map-append (λ (h : Head). (h.comps, h.dtype)) heads others ∙ ap (λ l. l ++ shapes others) are.same ∙ ap (λ l. s ++ l) also.same;
+coding-passes : (q : Coding) (h : Head) → HeadPasses h → goes_with q h ≡ true → IsCoded (coded q h)
+coding-passes Generic h passes goes = record {
+  passes = record { usage = passes.usage; dtype = passes.dtype; some = passes.some; few = passes.few };
+  coordinates = refl;
+  float = λ some. absurd (false≢true some);
+}
+coding-passes Integer h passes goes = record {
+  passes = record { usage = passes.usage; dtype = passes.dtype; some = passes.some; few = passes.few };
+  coordinates = refl;
+  float = λ some. absurd (false≢true some);
+}
+coding-passes Quantised h passes goes = record {
+  passes = record { usage = passes.usage; dtype = passes.dtype; some = passes.some; few = passes.few };
+  coordinates = refl;
+  float = λ some. absurd (false≢true some);
+}
+coding-passes Octahedral h passes goes = record {
+  passes = record { usage = passes.usage; dtype = passes.dtype; some = lit≤ tt; few = lit≤ tt };
+  coordinates = refl;
+  float = λ some. (and_parts (codes_type Octahedral h.dtype) (has_fixed (coding_facts Octahedral).fixed h.comps) goes).0;
 }
 
-quants-from : (heads : List Head) → All HeadPasses heads → (s : List (ℕ × ℕ)) (front : List Head) → AreHeads s front
-    → (c : Reading) (y : List Head × Reading)
-    → each_at (λ _ h. quantised_at h) front heads c ≡ Ok y → AreHeads (s ++ shapes heads) y.0
-unfolding each_at
-quants-from [] pass s front are c y is =
-    rw (append-nil s) (subst (λ (z : List Head × Reading). AreHeads s z.0) (Ok-injective is) are)
-quants-from (h ∷ heads) pass s front are c y is =
-    let p = parts (quantised_at h c) (λ x. each_at (λ _ h. quantised_at h) (front ++ x.0 ∷ []) heads x.1) y is in
-    let here = quantised-passed h (All-head HeadPasses h heads pass) c p.0 p.1 in
-    let shape : List (ℕ × ℕ) = (h.comps, h.dtype) ∷ [] in
-    subst (λ l. AreHeads l y.0) (append_assoc s shape (shapes heads))
-    (quants-from heads (All-tail HeadPasses h heads pass) (s ++ shape) (front ++ p.0.0 ∷ []) (AreHeads-append s shape front (p.0.0 ∷ []) are here) p.0.1 y p.2)
+coded-passed : (p : Profile) (h : Head) → HeadPasses h → (c : Reading) (y : Head × Reading) → coded_at p h c ≡ Ok y → IsCoded y.0
+unfolding coded_at coding_at
+coded-passed p h passes c y is =
+    let q = parts (must kind.Coding (λ q. goes_with q h) (known_coding_at p) c) (λ q. Ok (coded q.0 h, q.1)) y is in
+    let goes = must-passed kind.Coding (λ q. goes_with q h) (known_coding_at p) c q.0 q.1 in
+    given (λ (z : Head × Reading). IsCoded z.0) (coded q.0.0 h, q.0.1) y q.2 (coding-passes q.0.0 h passes goes.0)
 
--- heads with their quantisations
-pub quants-passed : (heads : List Head) → All HeadPasses heads → (c : Reading) (y : List Head × Reading) → quants_at heads c ≡ Ok y
-    → AreHeads (shapes heads) y.0
+-- no square, where a test says so
+pub none-of : (octa : Option ℕ) → is_some octa ≡ false → octa ≡ None
+none-of None none = refl
+none-of (Some bits) none = absurd (false≢true (sym none))
+
+-- where a head has a square there are two integers a point
+two-of : (comps : ℕ) (octa : Option ℕ) → has_coordinates comps octa ≡ true → is_some octa ≡ true → (comps == 2) ≡ true
+two-of comps None two some = absurd (false≢true some)
+two-of comps (Some bits) two some = two
+
+-- a head with what stands at its decoder's end has no fault
+quantised-head : (h : Head) → IsCoded h → is_some h.octa ≡ false → (c : Reading) (y : Head × Reading) → quantised_at h c ≡ Ok y → IsHead y.0
+unfolding quantised_at
+quantised-head h is_coded none c y is =
+    let p = parts (quant_of_at h c) (λ q. Ok (record h { quant = q.0 }, q.1)) y is in
+    let passes = is_coded.passes in
+    let fits = quant_fits h passes.dtype c p.0 p.1 in
+    let no_square = none-of h.octa none in
+    let o : Head = record h { quant = p.0.0 } in
+    given (λ (z : Head × Reading). IsHead z.0) (o, p.0.1) y p.2 (says-none o (record {
+      usage = passes.usage;
+      typed = ap (has_type h.dtype p.0.0) no_square ∙ fits.type_fits;
+      some = passes.some;
+      few = passes.few;
+      minima = fits.minima;
+      coordinates = is_coded.coordinates;
+      bits = fits.bits;
+      square = ap has_square_bits no_square;
+    }))
+
+squared-head : (h : Head) (v : Values) → IsCoded h → is_some h.octa ≡ true → (c : Reading) (y : Head × Reading) → squared_at h v c ≡ Ok y → IsHead y.0
+unfolding squared_at
+squared-head h v is_coded some c y is =
+    let p = parts (square_bits_at c) _ y is in
+    let t = passed (list_all (in_bounds (square_bounds p.0.0)) v.values) _ _ y p.2 in
+    let passes = is_coded.passes in
+    let bits = must-passed kind.QuantBits are_octahedral_bits (number_at 1) c p.0 p.1 in
+    let o : Head = record h { quant = None; octa = Some p.0.0 } in
+    given (λ (z : Head × Reading). IsHead z.0) (o, p.0.1) y t.1 (says-none o (record {
+      usage = passes.usage;
+      typed = is_coded.float some;
+      some = passes.some;
+      few = passes.few;
+      minima = refl;
+      coordinates = two-of h.comps h.octa is_coded.coordinates some;
+      bits = refl;
+      square = bits.0;
+    }))
+
+completed-head : (h : Head) (v : Values) → IsCoded h → (c : Reading) (y : Head × Reading) → completed_at h v c ≡ Ok y → IsHead y.0
+unfolding completed_at
+completed-head h v is_coded c y is =
+    either (IsHead y.0) (is_some h.octa) (squared_at h v c) (quantised_at h c) y is
+    (λ some read. squared-head h v is_coded some c y read)
+    (λ none read. quantised-head h is_coded none c y read)
+
+-- heads with what stands at their decoder's end
+pub heads-completed : (heads : List Head) (values : List Values) → All IsCoded heads → (c : Reading) (y : List Head × Reading) → quants_at heads values c ≡ Ok y
+    → All IsHead y.0
 unfolding quants_at
-quants-passed heads pass c y is = quants-from heads pass [] [] (record { each = All-nil IsHead; same = refl }) c y is
+heads-completed heads values are c y is =
+    each-passed IsHead IsCoded (next_completed_at values)
+    (λ front h c x is_coded read. completed-head h (get_or values (length front) no_values) is_coded c x read) [] heads c y (All-nil IsHead) are is
 
 -- the heads of a decoder: at least one, all accepted
 pub record DecoderRead (d : DecoderHead) : Type 0 where
   pub some : 1 ≤ length d.heads
-  pub heads : All HeadPasses d.heads
+  pub heads : All IsCoded d.heads
 
-decoder-passed : (before : ℕ) (link : Link) (c : Reading) (y : DecoderHead × Reading) → decoder_at before link c ≡ Ok y
+decoder-passed : (p : Profile) (before : ℕ) (link : Link) (c : Reading) (y : DecoderHead × Reading) → decoder_at p before link c ≡ Ok y
     → DecoderRead y.0 × (before + length y.0.heads ≤ MAX_ATTRIBUTES)
 unfolding decoder_at
-decoder-passed before link c y is =
+decoder-passed profile before link c y is =
     let few : ℕ → Bool = λ n. nat_le (before + n) MAX_ATTRIBUTES in
     let some : ℕ → Bool = λ n. nat_lt 0 n in
     let p = parts (attribute_count_at before c) _ y is in
     let q = parts (many_at head_at p.0.0 p.0.1) _ y p.2 in
-    let r = parts (codings_at q.0.0 q.0.1) _ y q.2 in
+    let r = parts (codings_at profile q.0.0 q.0.1) _ y q.2 in
     let most = must-passed kind.AttrLimit few (λ c. must kind.NoAttribute some var32_at c) c p.0 p.1 in
     let least = must-passed kind.NoAttribute some var32_at c p.0 most.1 in
     let heads = many-passed HeadPasses head_at head_passed p.0.0 p.0.1 q.0 q.1 in
-    let d : DecoderHead = record { data_id = link.data_id; corner = link.corner; degree = link.degree; heads = q.0.0 } in
-    given (λ (z : DecoderHead × Reading). DecoderRead z.0 × (before + length z.0.heads ≤ MAX_ATTRIBUTES)) (d, r.0.1) y r.2
-    (record { some = omega (arith, ltb-true 0 p.0.0 least.0, heads.0); heads = heads.1 }, omega (arith, leb-true (before + p.0.0) MAX_ATTRIBUTES most.0, heads.0))
+    let are = each-passed IsCoded HeadPasses (λ (_ : List Head) h. coded_at profile h)
+    (λ front h c x passes read. coded-passed profile h passes c x read) [] q.0.0 q.0.1 r.0 (All-nil IsCoded) heads.1 r.1 in
+    let same = each-counted (λ (_ : List Head) h. coded_at profile h) [] q.0.0 q.0.1 r.0 r.1 in
+    let d : DecoderHead = record { data_id = link.data_id; corner = link.corner; degree = link.degree; heads = r.0.0 } in
+    given (λ (z : DecoderHead × Reading). DecoderRead z.0 × (before + length z.0.heads ≤ MAX_ATTRIBUTES)) (d, r.0.1) y r.2 (
+      record { some = omega (arith, ltb-true 0 p.0.0 least.0, heads.0, same); heads = are },
+      omega (arith, leb-true (before + p.0.0) MAX_ATTRIBUTES most.0, heads.0, same),
+    )
 
 -- decoders that were read: at least so many, and not too many attributes
 pub record DecodersRead (n : ℕ) (ds : List DecoderHead) : Type 0 where
@@ -143,16 +227,16 @@ pub record DecodersRead (n : ℕ) (ds : List DecoderHead) : Type 0 where
   pub few : attributes_of ds ≤ MAX_ATTRIBUTES
   pub each : All DecoderRead ds
 
-decoders-from : (links : List Link) (n : ℕ) (front : List DecoderHead) → DecodersRead n front
+decoders-from : (p : Profile) (links : List Link) (n : ℕ) (front : List DecoderHead) → DecodersRead n front
     → (c : Reading) (y : List DecoderHead × Reading)
-    → each_at (λ before link. decoder_at (attributes_of before) link) front links c ≡ Ok y → DecodersRead (n + length links) y.0
+    → each_at (λ before link. decoder_at p (attributes_of before) link) front links c ≡ Ok y → DecodersRead (n + length links) y.0
 unfolding each_at
-decoders-from [] n front are c y is =
+decoders-from profile [] n front are c y is =
     let none : n + 0 ≡ n = omega arith in
     rw none (subst (λ (z : List DecoderHead × Reading). DecodersRead n z.0) (Ok-injective is) are)
-decoders-from (link ∷ links) n front are c y is =
-    let p = parts (decoder_at (attributes_of front) link c) (λ x. each_at (λ before link. decoder_at (attributes_of before) link) (front ++ x.0 ∷ []) links x.1) y is in
-    let here = decoder-passed (attributes_of front) link c p.0 p.1 in
+decoders-from profile (link ∷ links) n front are c y is =
+    let p = parts (decoder_at profile (attributes_of front) link c) (λ x. each_at (λ before link. decoder_at profile (attributes_of before) link) (front ++ x.0 ∷ []) links x.1) y is in
+    let here = decoder-passed profile (attributes_of front) link c p.0 p.1 in
     let heads_in : DecoderHead → ℕ = λ d. length d.heads in
     let sum = sum_by-append heads_in front (p.0.0 ∷ []) in
     let one = sum_by-cons heads_in p.0.0 [] in
@@ -162,19 +246,7 @@ decoders-from (link ∷ links) n front are c y is =
       few = omega (arith, here.1, sum, one);
       each = All-append DecoderRead front (p.0.0 ∷ []) are.each (All-cons DecoderRead p.0.0 [] here.0 (All-nil DecoderRead));
     } in
-    subst (λ m. DecodersRead m y.0) more (decoders-from links (n + 1) (front ++ p.0.0 ∷ []) next p.0.1 y p.2)
-
--- items of which each may depend on those before it: as many as there are to read
-each-counted : {A B : Type 0} (item : List A → B → Reading → Item A) (front : List A) (bs : List B) (c : Reading) (y : List A × Reading)
-    → each_at item front bs c ≡ Ok y → length y.0 ≡ length front + length bs
-unfolding each_at
-each-counted {A} {B} item front [] c y is =
-    let same : length front ≡ length front + 0 = omega arith in
-    given (λ (z : List A × Reading). length z.0 ≡ length front + 0) (front, c) y is same
-each-counted {A} {B} item front (b ∷ bs) c y is =
-    let p = parts (item front b c) (λ x. each_at item (front ++ x.0 ∷ []) bs x.1) y is in
-    let rest = each-counted item (front ++ p.0.0 ∷ []) bs p.0.1 y p.2 in
-    rest ∙ omega (arith, length-append front (p.0.0 ∷ []))
+    subst (λ m. DecodersRead m y.0) more (decoders-from profile links (n + 1) (front ++ p.0.0 ∷ []) next p.0.1 y p.2)
 
 -- as many links as decoders
 links-counted : (a : Option ℕ) (n : ℕ) (c : Reading) (y : List Link × Reading) → links_at a n c ≡ Ok y → length y.0 ≡ n
@@ -185,9 +257,9 @@ links-counted (Some k) n c y is =
     each-counted (λ before _. link_at k before) [] (range_with_len 0 n) c y is ∙ omega (arith, length-range_with_len 0 n)
 
 -- the heads of all decoders, beside so many attribute data in an Edgebreaker stream
-pub heads-read : (a : Option ℕ) (c : Reading) (y : List DecoderHead × Reading) → heads_at a c ≡ Ok y → DecodersRead 1 y.0
+pub heads-read : (p : Profile) (a : Option ℕ) (c : Reading) (y : List DecoderHead × Reading) → heads_at p a c ≡ Ok y → DecodersRead 1 y.0
 unfolding heads_at decoder_count_at decoders_at
-heads-read a c y is =
+heads-read profile a c y is =
     let few : ℕ → Bool = λ n. nat_le n MAX_ATTRIBUTES in
     let some : ℕ → Bool = λ n. nat_lt 0 n in
     let p = parts (must kind.AttrLimit few (λ c. must kind.NoAttribute some (number_at 1) c) c) _ y is in
@@ -196,12 +268,12 @@ heads-read a c y is =
     let least = must-passed kind.NoAttribute some (number_at 1) c p.0 most.1 in
     let count = links-counted a p.0.0 p.0.1 q.0 q.1 in
     let none : DecodersRead 0 [] = record { some = omega arith; few = omega arith; each = All-nil DecoderRead } in
-    let all = decoders-from q.0.0 0 [] none q.0.1 y q.2 in
+    let all = decoders-from profile q.0.0 0 [] none q.0.1 y q.2 in
     record { some = omega (arith, all.some, count, ltb-true 0 p.0.0 least.0); few = all.few; each = all.each }
 
 -- the heads of all decoders of a sequential stream
-pub heads-passed : (c : Reading) (y : List DecoderHead × Reading) → heads_at None c ≡ Ok y → DecodersRead 1 y.0
-heads-passed c y is = heads-read None c y is
+pub heads-passed : (p : Profile) (c : Reading) (y : List DecoderHead × Reading) → heads_at p None c ≡ Ok y → DecodersRead 1 y.0
+heads-passed p c y is = heads-read p None c y is
 
 each-none : (k : ℕ) (heads : List Head) → All IsHead heads → each_fault k heads ≡ None
 each-none k [] are = refl

@@ -4,6 +4,7 @@ use Rattle.std.specs.Prelude.{nat_lt}
 use Rattle.std.specs.List.{range_with_len}
 use Rattle.std.proofs.lemmas.Bool.{false≢true, ltb-true, lt-ltb}
 use Rattle.drc_base.specs.declared.kinds.Kind.TheVariants as kind
+use Rattle.drc_base.specs.Profile.{Profile}
 use Rattle.drc_bits.specs.Reading.{Reading, must}
 use Rattle.drc_bits.specs.Numbers.{number_at}
 use Rattle.attr_section.specs.declared.links.Link.{Link}
@@ -37,9 +38,9 @@ link-more few many more before c y is =
     rw same p.2
 
 -- the heads of all decoders
-pub heads-more : (few many : ℕ) → few ≤ many → (c : Reading) → Keeps (heads_at (Some few) c) (heads_at (Some many) c)
+pub heads-more : (p : Profile) (few many : ℕ) → few ≤ many → (c : Reading) → Keeps (heads_at p (Some few) c) (heads_at p (Some many) c)
 unfolding heads_at links_at linked_at
-heads-more few many more c y is =
+heads-more profile few many more c y is =
     let p = parts (decoder_count_at c) _ y is in
     let q = parts (linked_at few p.0.0 p.0.1) _ y p.2 in
     let links = keeps-each (λ before (_ : ℕ). link_at few before) (λ before (_ : ℕ). link_at many before)

@@ -8,7 +8,7 @@ use Rattle.attr_heads.specs.declared.heads.Head.{Head}
 use Rattle.attr_heads.specs.Head.{width_of}
 use Rattle.attr_section.specs.declared.values.Values.{Values}
 use Rattle.drc_container.specs.Columns.{column_row, cells_at}
-use Rattle.attr_section.specs.Values.{AreColumns}
+use Rattle.attr_section.specs.Attributes.{AreColumns}
 use Rattle.drc_container.proofs.lemmas.reading.Rows.{columns, piece_within}
 
 length-row_at : (n i : ℕ) (heads : List Head) (values : List Values) → AreColumns n heads values → i < n

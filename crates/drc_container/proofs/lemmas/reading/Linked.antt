@@ -5,6 +5,7 @@ use Rattle.std.specs.List.{All, range_with_len}
 use Rattle.std.proofs.lemmas.Bool.{leb-true, ltb-true, eqb-true, and_parts}
 use Rattle.std.proofs.lemmas.List.Elements.{All-nil, All-cons, All-head, All-tail, All-append}
 use Rattle.drc_base.specs.declared.kinds.Kind.TheVariants as kind
+use Rattle.drc_base.specs.Profile.{Profile}
 use Rattle.drc_bits.specs.Reading.{Reading, Item, must, many_at}
 use Rattle.drc_bits.specs.Numbers.{number_at}
 use Rattle.attr_section.specs.declared.decoder_heads.DecoderHead.{DecoderHead}
@@ -64,24 +65,24 @@ link-passed blocks before c y is =
 abbrev pub IsCut : ℕ → DecoderHead → Type 0
 IsCut blocks d = d.corner ≡ true → HasSeams blocks d
 
-decoder-linked : (blocks before : ℕ) (link : Link) (c : Reading) (y : DecoderHead × Reading) → IsLinked blocks link
-    → decoder_at before link c ≡ Ok y → IsCut blocks y.0
+decoder-linked : (p : Profile) (blocks before : ℕ) (link : Link) (c : Reading) (y : DecoderHead × Reading) → IsLinked blocks link
+    → decoder_at p before link c ≡ Ok y → IsCut blocks y.0
 unfolding decoder_at
-decoder-linked blocks before link c y linked is =
+decoder-linked profile blocks before link c y linked is =
     let p = parts (attribute_count_at before c) _ y is in
     let q = parts (many_at head_at p.0.0 p.0.1) _ y p.2 in
-    let r = parts (codings_at q.0.0 q.0.1) _ y q.2 in
-    let d : DecoderHead = record { data_id = link.data_id; corner = link.corner; degree = link.degree; heads = q.0.0 } in
+    let r = parts (codings_at profile q.0.0 q.0.1) _ y q.2 in
+    let d : DecoderHead = record { data_id = link.data_id; corner = link.corner; degree = link.degree; heads = r.0.0 } in
     given (λ (z : DecoderHead × Reading). IsCut blocks z.0) (d, r.0.1) y r.2
     (λ corner. let known = linked corner in record { id = known.id_read; is = known.is; within = known.within })
 
 -- the decoders of an Edgebreaker stream beside so many attribute data
-pub heads-linked : (blocks : ℕ) (c : Reading) (y : List DecoderHead × Reading) → heads_at (Some blocks) c ≡ Ok y → All (IsCut blocks) y.0
+pub heads-linked : (p : Profile) (blocks : ℕ) (c : Reading) (y : List DecoderHead × Reading) → heads_at p (Some blocks) c ≡ Ok y → All (IsCut blocks) y.0
 unfolding heads_at links_at linked_at decoders_at
-heads-linked blocks c y is =
+heads-linked profile blocks c y is =
     let p = parts (decoder_count_at c) _ y is in
     let q = parts (linked_at blocks p.0.0 p.0.1) _ y p.2 in
     let links = each-passed (IsLinked blocks) (λ (_ : ℕ). Unit {0}) (λ before _. link_at blocks before)
     (λ front b c x none read. link-passed blocks front c x read) [] (range_with_len 0 p.0.0) p.0.1 q.0 (All-nil (IsLinked blocks)) (λ k d below. tt) q.1 in
-    each-passed (IsCut blocks) (IsLinked blocks) (λ before link. decoder_at (attributes_of before) link)
-    (λ front link c x linked read. decoder-linked blocks (attributes_of front) link c x linked read) [] q.0.0 q.0.1 y (All-nil (IsCut blocks)) links q.2
+    each-passed (IsCut blocks) (IsLinked blocks) (λ before link. decoder_at profile (attributes_of before) link)
+    (λ front link c x linked read. decoder-linked profile blocks (attributes_of front) link c x linked read) [] q.0.0 q.0.1 y (All-nil (IsCut blocks)) links q.2

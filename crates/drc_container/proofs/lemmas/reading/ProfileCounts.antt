@@ -4,7 +4,7 @@ use Rattle.std.specs.Prelude.{nat_le}
 use Rattle.std.proofs.lemmas.Bool.{leb-true, le-leb}
 use Rattle.drc_base.specs.declared.faults.Fault.{Fault}
 use Rattle.drc_base.specs.declared.kinds.Kind.TheVariants.{PointLimit, ValueLimit}
-use Rattle.drc_base.specs.Profile.{Profile, profile, profile_numbered}
+use Rattle.drc_base.specs.Profile.{Profile, profile_numbered}
 use Rattle.drc_base.specs.Steps.{◌>>=◌}
 use Rattle.drc_bits.proofs.Results.{err≢ok}
 use Rattle.attr_heads.specs.declared.heads.Head.{Head}

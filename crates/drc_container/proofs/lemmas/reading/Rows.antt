@@ -7,7 +7,7 @@ use Rattle.std.proofs.Math.Nat.{mul-le-mul_right}
 use Rattle.attr_heads.specs.declared.heads.Head.{Head}
 use Rattle.attr_section.specs.declared.values.Values.{Values}
 use Rattle.drc_container.specs.Columns.{column_row, cells_at}
-use Rattle.attr_section.specs.Values.{AreColumns}
+use Rattle.attr_section.specs.Attributes.{AreColumns}
 use Rattle.drc_container.proofs.lemmas.writing.Columns.{cells_at-only}
 
 -- the columns of values

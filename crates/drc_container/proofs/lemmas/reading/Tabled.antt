@@ -10,66 +10,60 @@ use Rattle.drc_base.specs.declared.limits.TheConstants.{MAX_FACES, MAX_VALUES}
 use Rattle.drc_bits.specs.Reading.{Reading, Item}
 use Rattle.attr_heads.specs.declared.heads.Head.{Head}
 use Rattle.mesh_model.specs.Groups.{AttrTable}
-use Rattle.attr_heads.specs.DataTypes.{in_type}
+use Rattle.attr_heads.specs.Bounds.{in_bounds, bounds_of}
 use Rattle.mesh_model.specs.Assembled.{IsAttrTable, AreAttrTables, AreTables}
 use Rattle.corner_table.specs.declared.corner_lists.Order.{Order}
 use Rattle.corner_table.specs.Ordered.{Ordered, entries_by}
 use Rattle.walk_order.specs.Orders.{IsOrderOver}
 use Rattle.attr_section.specs.declared.decoder_heads.DecoderHead.{DecoderHead}
 use Rattle.attr_section.specs.declared.values.Values.{Values}
-use Rattle.attr_heads.specs.HeadItems.{HeadPasses}
+use Rattle.attr_section.specs.Orders.{HasCoordinates}
+use Rattle.attr_section.specs.Positions.{PositionsRead}
 use Rattle.attr_section.specs.Heads.{attributes_of, heads_at}
-use Rattle.attr_section.specs.Values.{quants_at, decoder_values_at, attributes_at as columns_at, values_in}
+use Rattle.attr_section.specs.Attributes.{attributes_at as columns_at, next_completed_at, quants_at, decoder_values_at, values_in}
 use Rattle.eb_section.specs.Connectivity.{Connectivity}
-use Rattle.drc_container.specs.reading.OnSurface.{SurfaceAttributes, ordered_for, tables_of, decoder_attributes, attributes_joined, values_on, decoder_on, no_attributes, surface_decoders_at}
+use Rattle.drc_container.specs.reading.OnSurface.{SurfaceAttributes, ordered_for, tables_of, decoder_attributes, attributes_joined, values_on, positions_among, decoder_on, no_attributes, surface_decoders_at}
 use Rattle.drc_container.proofs.lemmas.reading.Parted.{given, parts}
-use Rattle.drc_container.proofs.lemmas.reading.Headed.{IsHead, shapes, quants-passed, DecoderRead, heads-read, heads-none}
-use Rattle.drc_container.proofs.lemmas.reading.Whole.{AreTyped, AreColumns as ColumnsWithin, columns-from, shapes-length}
+use Rattle.drc_container.proofs.lemmas.reading.Headed.{IsHead, IsCoded, each-counted, heads-completed, DecoderRead, heads-read, heads-none}
+use Rattle.drc_container.proofs.lemmas.reading.Whole.{AreTyped, columns-read, columns-completed}
 
--- a decoder that was read: its heads have no fault, and each has a column of its type
-pub record IsDecoded (n : ℕ) (d : DecoderHead) (x : List Values × DecoderHead) : Type 0 where
-  pub heads : All IsHead x.1.heads
-  pub same : length x.1.heads ≡ length d.heads
-  pub typed : AreTyped n (shapes x.1.heads) x.0
-
-pub decoder-read : (k : ℕ) (w : Option Ordered) (d : DecoderHead) (n spent : ℕ) → spent ≤ MAX_VALUES → All HeadPasses d.heads
-    → (c : Reading) (y : (List Values × DecoderHead) × Reading) → decoder_values_at (profile_numbered k) w d n spent c ≡ Ok y → IsDecoded n d y.0
-unfolding decoder_values_at columns_at
-decoder-read k w d n spent few passes c y is =
-    let q = parts (columns_at (profile_numbered k) w d.heads n spent c) _ y is in
-    let r = parts (quants_at d.heads q.0.1) _ y q.2 in
-    let none : ColumnsWithin n spent [] [] = record { typed = tt; few = omega (arith, few) } in
-    let here = columns-from k w n spent d.heads [] [] none c q.0 q.1 in
-    let heads = quants-passed d.heads passes q.0.1 r.0 r.1 in
+-- the attributes of a decoder that was read are columns of its heads
+pub decoder-read : (k : ℕ) (w : Option Ordered) (found : PositionsRead) (d : DecoderHead) (n spent : ℕ) → spent ≤ MAX_VALUES → All HasCoordinates d.heads
+    → (c : Reading) (y : (List Values × DecoderHead) × Reading) → decoder_values_at (profile_numbered k) w found d n spent c ≡ Ok y → AreTyped n y.0.1.heads y.0.0
+unfolding decoder_values_at
+decoder-read k w found d n spent few two c y is =
+    let q = parts (columns_at (profile_numbered k) w found d.heads n spent c) _ y is in
+    let r = parts (quants_at d.heads q.0.0 q.0.1) _ y q.2 in
+    let here = columns-read k w found n spent few d.heads two c q.0 q.1 in
+    let typed = columns-completed n d.heads q.0.0 here.read q.0.1 r.0 r.1 in
     let made : List Values × DecoderHead = (q.0.0, record d { heads = r.0.0 }) in
-    given (λ (z : (List Values × DecoderHead) × Reading). IsDecoded n d z.0) (made, r.0.1) y r.2
-    (record { heads = heads.each; same = shapes-length r.0.0 d.heads heads.same; typed = rw heads.same here.typed })
+    given (λ (z : (List Values × DecoderHead) × Reading). AreTyped n z.0.1.heads z.0.0) (made, r.0.1) y r.2 typed.1
 
 -- the heads of a decoder alone
-decoder-heads : (k : ℕ) (w : Option Ordered) (d : DecoderHead) (n spent : ℕ) → All HeadPasses d.heads
-    → (c : Reading) (y : (List Values × DecoderHead) × Reading) → decoder_values_at (profile_numbered k) w d n spent c ≡ Ok y
+decoder-heads : (k : ℕ) (w : Option Ordered) (found : PositionsRead) (d : DecoderHead) (n spent : ℕ) → All IsCoded d.heads
+    → (c : Reading) (y : (List Values × DecoderHead) × Reading) → decoder_values_at (profile_numbered k) w found d n spent c ≡ Ok y
     → All IsHead y.0.1.heads × (length y.0.1.heads ≡ length d.heads)
-unfolding decoder_values_at
-decoder-heads k w d n spent passes c y is =
-    let q = parts (columns_at (profile_numbered k) w d.heads n spent c) _ y is in
-    let r = parts (quants_at d.heads q.0.1) _ y q.2 in
-    let heads = quants-passed d.heads passes q.0.1 r.0 r.1 in
+unfolding decoder_values_at quants_at
+decoder-heads k w found d n spent are c y is =
+    let q = parts (columns_at (profile_numbered k) w found d.heads n spent c) _ y is in
+    let r = parts (quants_at d.heads q.0.0 q.0.1) _ y q.2 in
+    let heads = heads-completed d.heads q.0.0 are q.0.1 r.0 r.1 in
+    let same : length r.0.0 ≡ length d.heads = each-counted (next_completed_at q.0.0) [] d.heads q.0.1 r.0 r.1 ∙ omega arith in
     let made : List Values × DecoderHead = (q.0.0, record d { heads = r.0.0 }) in
-    given (λ (z : (List Values × DecoderHead) × Reading). All IsHead z.0.1.heads × (length z.0.1.heads ≡ length d.heads)) (made, r.0.1) y r.2
-    (heads.each, shapes-length r.0.0 d.heads heads.same)
+    given (λ (z : (List Values × DecoderHead) × Reading). All IsHead z.0.1.heads × (length z.0.1.heads ≡ length d.heads)) (made, r.0.1) y r.2 (heads, same)
 
--- a column of the type of its head, with the entries of so many corners, is one for assembling
+-- a column within the bounds of its head, with the entries of so many corners, is one for assembling
 column-of : (corners n : ℕ) (entries : List ℕ) → length entries ≡ corners → All (λ (e : ℕ). e < n) entries → (h : Head) (v : Values)
-    → length v.values ≡ n * h.comps → list_all (in_type h.dtype) v.values ≡ true
+    → length v.values ≡ n * h.comps → list_all (in_bounds (bounds_of h)) v.values ≡ true
     → IsAttrTable corners (h, record { values = v.values; of_corner = entries })
 column-of corners n entries each within h v long typed = record {
   each_corner = each;
   entries = λ k d below. let most = mul-le-mul_right h.comps (within k d below) in omega (arith, most, long);
-  values = λ k d below. AllPass-from_list_all (in_type h.dtype) v.values typed k d below;
+  values = λ k d below. AllPass-from_list_all (in_bounds (bounds_of h)) v.values typed k d below;
 }
 
 pub columns-tables : (corners n : ℕ) (entries : List ℕ) → length entries ≡ corners → All (λ (e : ℕ). e < n) entries → (heads : List Head) (values : List Values)
-    → AreTyped n (shapes heads) values → AreAttrTables corners heads (tables_of entries values)
+    → AreTyped n heads values → AreAttrTables corners heads (tables_of entries values)
 columns-tables corners n entries each within [] [] are = record { each_head = refl; each_column = All-nil (IsAttrTable corners) }
 columns-tables corners n entries each within [] (v ∷ values) are = absurd are
 columns-tables corners n entries each within (h ∷ heads) [] are = absurd are
@@ -132,11 +126,12 @@ heads-placed k s [] read before are c y is =
 heads-placed k s (d ∷ ds) read before are c y is =
     let w = ordered_for s d in
     let spent = values_on before.tables in
-    let passes = (All-head DecoderRead d ds read).heads in
+    let found = positions_among before in
+    let coded = (All-head DecoderRead d ds read).heads in
     let next : SurfaceAttributes × Reading → Item SurfaceAttributes = λ x. surface_decoders_at (profile_numbered k) s (attributes_joined before x.0) ds x.1 in
-    let p = parts (decoder_on (profile_numbered k) w d spent c) next y is in
-    let q = parts (decoder_values_at (profile_numbered k) (Some w) d (length w.corners) spent c) (λ x. Ok (decoder_attributes w x.0.1 x.0.0, x.1)) p.0 p.1 in
-    let here = decoder-heads k (Some w) d (length w.corners) spent passes c q.0 q.1 in
+    let p = parts (decoder_on (profile_numbered k) w found d spent c) next y is in
+    let q = parts (decoder_values_at (profile_numbered k) (Some w) found d (length w.corners) spent c) (λ x. Ok (decoder_attributes w x.0.1 x.0.0, x.1)) p.0 p.1 in
+    let here = decoder-heads k (Some w) found d (length w.corners) spent coded c q.0 q.1 in
     let part : (All IsHead p.0.0.heads) × (length p.0.0.heads ≡ length d.heads) =
     given (λ (z : SurfaceAttributes × Reading). All IsHead z.0.heads × (length z.0.heads ≡ length d.heads)) (decoder_attributes w q.0.0.1 q.0.0.0, q.0.1) p.0 q.2 here in
     let all = All-append IsHead before.heads p.0.0.heads are part.0 in
@@ -145,11 +140,11 @@ heads-placed k s (d ∷ ds) read before are c y is =
     (rest.0, rest.1 ∙ omega (arith, length-append before.heads p.0.0.heads, part.1, sum))
 
 -- attributes that were read on a surface are tables for assembling
-pub tables-whole : (k : ℕ) (s : Connectivity) (c d e : Reading) (ds : List DecoderHead) (a : SurfaceAttributes) → heads_at (Some s.attr_data) c ≡ Ok (ds, d)
+pub tables-whole : (k : ℕ) (s : Connectivity) (c d e : Reading) (ds : List DecoderHead) (a : SurfaceAttributes) → heads_at (profile_numbered k) (Some s.attr_data) c ≡ Ok (ds, d)
     → surface_decoders_at (profile_numbered k) s no_attributes ds d ≡ Ok (a, e) → s.faces ≤ MAX_FACES → AreAttrTables (3 * s.faces) a.heads a.tables
     → AreTables a.heads a.tables s.faces
 tables-whole k s c d e ds a heads placed few columns =
-    let read = heads-read (Some s.attr_data) c (ds, d) heads in
+    let read = heads-read (profile_numbered k) (Some s.attr_data) c (ds, d) heads in
     let all = heads-placed k s ds read.each no_attributes (All-nil IsHead) d (a, e) placed in
     record {
       heads_pass = heads-none a.heads (omega (arith, all.1, read.some)) (omega (arith, all.1, read.few)) all.0;

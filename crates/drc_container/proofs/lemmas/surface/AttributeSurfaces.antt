@@ -17,7 +17,7 @@ use Rattle.walk_order.proofs.Labels.{surface_is_labelled}
 use Rattle.corner_table.specs.Ordered.{Ordered, ordered, IsOrdered}
 use Rattle.predict.specs.Laws.{AreApart}
 use Rattle.predict.proofs.Rounds.{flags_are_few}
-use Rattle.attr_section.specs.Written.{HasFewFlags}
+use Rattle.attr_section.specs.WrittenParts.{HasFewFlags}
 use Rattle.attr_section.proofs.SpelledFlags.{few_in}
 use Rattle.drc_container.specs.declared.choice.codings.Coding.{Coding}
 use Rattle.drc_container.specs.declared.surface.ordered_surface.OrderedSurface.{OrderedSurface}

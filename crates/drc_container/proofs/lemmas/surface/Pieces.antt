@@ -7,8 +7,8 @@ use Rattle.std.proofs.lemmas.List.Folds.{list_all-append}
 use Rattle.std.proofs.lemmas.List.Sums.{sum_by-cons, list_all-from_AllPass}
 use Rattle.std.proofs.lemmas.Bool.{and_from}
 use Rattle.attr_heads.specs.declared.heads.Head.{Head}
-use Rattle.attr_heads.specs.DataTypes.{in_type}
-use Rattle.attr_heads.specs.Head.{width_of, types_of}
+use Rattle.attr_heads.specs.Bounds.{in_bounds, no_bounds, bounds_of}
+use Rattle.attr_heads.specs.Head.{width_of, row_bounds}
 use Rattle.mesh_model.specs.Parts.{MeshParts, RowFits, IsMesh}
 use Rattle.corner_table.specs.Sides.{Side}
 use Rattle.seams.specs.Values.{piece}
@@ -18,10 +18,10 @@ use Rattle.drc_container.proofs.lemmas.surface.Decoded.{point_of, row_of, point-
 width-cons : (h : Head) (heads : List Head) → width_of (h ∷ heads) ≡ h.comps + width_of heads
 width-cons h heads = sum_by-cons (λ (x : Head). x.comps) h heads
 
--- integers as a head says them: as many as it has components, in its type
+-- integers as a head says them: as many as it has components, within its bounds
 pub record IsPiece (h : Head) (piece : List ℤ) : Type 0 where
   pub long : length piece ≡ h.comps
-  pub typed : list_all (in_type h.dtype) piece ≡ true
+  pub typed : list_all (in_bounds (bounds_of h)) piece ≡ true
 
 -- the first integers of a row
 first-piece : (h : Head) (heads : List Head) (row : List ℤ) → RowFits (h ∷ heads) row → IsPiece h (take h.comps row)
@@ -30,13 +30,13 @@ first-piece h heads row fits =
     let len : length (take h.comps row) ≡ h.comps = length-take-le h.comps row (omega (arith, whole, fits.0)) in
     record {
       long = len;
-      typed = list_all-from_AllPass (in_type h.dtype) (take h.comps row) (All-from_get_or (λ x. in_type h.dtype x ≡ true) (take h.comps row) (pos 0) (λ j below.
+      typed = list_all-from_AllPass (in_bounds (bounds_of h)) (take h.comps row) (All-from_get_or (λ x. in_bounds (bounds_of h) x ≡ true) (take h.comps row) (pos 0) (λ j below.
           let short : j < h.comps = omega (arith, below, len) in
-          let inside : j < length (replicate h.comps h.dtype) = omega (arith, short, length-replicate h.comps h.dtype) in
-          let typed : get_or (types_of (h ∷ heads)) j 0 ≡ h.dtype =
-          get_or_append_left (replicate h.comps h.dtype) (types_of heads) 0 j inside ∙ get_or-replicate h.comps j h.dtype 0 short in
-          ap (in_type h.dtype) (get_or-take h.comps row j (pos 0) short)
-          ∙ sym (ap (λ t. in_type t (get_or row j (pos 0))) typed)
+          let inside : j < length (replicate h.comps (bounds_of h)) = omega (arith, short, length-replicate h.comps (bounds_of h)) in
+          let typed : get_or (row_bounds (h ∷ heads)) j no_bounds ≡ bounds_of h =
+          get_or_append_left (replicate h.comps (bounds_of h)) (row_bounds heads) no_bounds j inside ∙ get_or-replicate h.comps j (bounds_of h) no_bounds short in
+          ap (in_bounds (bounds_of h)) (get_or-take h.comps row j (pos 0) short)
+          ∙ sym (ap (λ b. in_bounds b (get_or row j (pos 0))) typed)
           ∙ fits.1 j (omega (arith, whole, short))));
     }
 
@@ -46,10 +46,10 @@ rest-fits h heads row fits =
     let whole = width-cons h heads in (
       length-drop h.comps row ∙ omega (arith, whole, fits.0),
       λ j below.
-          let typed : get_or (types_of (h ∷ heads)) (h.comps + j) 0 ≡ get_or (types_of heads) j 0 =
-          ap (λ n. get_or (types_of (h ∷ heads)) (n + j) 0) (sym (length-replicate h.comps h.dtype)) ∙ get_or-append-add (replicate h.comps h.dtype) (types_of heads) j 0 in
-          ap (in_type (get_or (types_of heads) j 0)) (get_or-drop h.comps row j (pos 0))
-          ∙ sym (ap (λ t. in_type t (get_or row (h.comps + j) (pos 0))) typed)
+          let typed : get_or (row_bounds (h ∷ heads)) (h.comps + j) no_bounds ≡ get_or (row_bounds heads) j no_bounds =
+          ap (λ n. get_or (row_bounds (h ∷ heads)) (n + j) no_bounds) (sym (length-replicate h.comps (bounds_of h))) ∙ get_or-append-add (replicate h.comps (bounds_of h)) (row_bounds heads) j no_bounds in
+          ap (in_bounds (get_or (row_bounds heads) j no_bounds)) (get_or-drop h.comps row j (pos 0))
+          ∙ sym (ap (λ b. in_bounds b (get_or row (h.comps + j) (pos 0))) typed)
           ∙ fits.1 (h.comps + j) (omega (arith, whole, below)),
     )
 
@@ -96,13 +96,13 @@ piece-is m is k d has c within = part-is m.heads k d (row_of m c) (row-fits m is
 
 -- ---- columns of pieces
 
--- a column of pieces is in the type of its head
+-- a column of pieces is within the bounds of its head
 pub pieces-typed : (m : MeshParts) → IsMesh m → (k : ℕ) (d : Head) → k < length m.heads → (order : List Side) → AreOf (length m.faces) order
-    → list_all (in_type (get_or m.heads k d).dtype) (flat_map (piece m k) order) ≡ true
+    → list_all (in_bounds (bounds_of (get_or m.heads k d))) (flat_map (piece m k) order) ≡ true
 pieces-typed m is k d has [] on = refl
 pieces-typed m is k d has (c ∷ order) on =
     let P : Side → Type 0 = λ (x : Side). x.face < length m.faces in
-    list_all-append (in_type (get_or m.heads k d).dtype) (piece m k c) (flat_map (piece m k) order)
+    list_all-append (in_bounds (bounds_of (get_or m.heads k d))) (piece m k c) (flat_map (piece m k) order)
     ∙ and_from _ _ (piece-is m is k d has c (All-head P c order on)).typed (pieces-typed m is k d has order (All-tail P c order on))
 
 -- and has a piece for each corner

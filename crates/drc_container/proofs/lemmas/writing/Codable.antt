@@ -8,34 +8,39 @@ use Rattle.std.proofs.lemmas.List.Elements.{All-nil, All-cons, All-head, All-tai
 use Rattle.std.proofs.lemmas.Bool.{and_from, false≢true}
 use Rattle.std.proofs.Math.Nat.{mul-mod_left, mul-le-mul_left}
 use Rattle.drc_base.specs.declared.limits.TheConstants.{MAX_VALUES}
+use Rattle.attr_heads.specs.declared.bounds.Bounds.{Bounds}
 use Rattle.attr_heads.specs.declared.heads.Head.{Head}
-use Rattle.attr_heads.specs.DataTypes.{in_type}
-use Rattle.attr_heads.specs.Head.{width_of, types_of}
+use Rattle.attr_heads.specs.Bounds.{in_bounds, no_bounds, bounds_of}
+use Rattle.attr_heads.specs.Head.{width_of, row_bounds}
 use Rattle.mesh_model.specs.Parts.{RowFits}
 use Rattle.attr_heads.proofs.Passing.{HeadSays}
 use Rattle.predict.specs.Wrap.{CanWrap}
-use Rattle.predict.specs.Schemes.{facts, code_of}
+use Rattle.predict.specs.Schemes.{facts}
 use Rattle.attr_section.specs.declared.values.Values.{Values}
-use Rattle.attr_section.specs.Values.{values_in}
-use Rattle.attr_section.specs.Written.{range_of, CanPredict, ValuesPass, HaveEntries}
-use Rattle.predict.specs.declared.schemes.Prediction.{Prediction}
+use Rattle.attr_section.specs.Attributes.{values_in}
+use Rattle.attr_section.specs.WrittenParts.{range_of}
+use Rattle.attr_section.specs.Written.{ValuesPass, HaveEntries}
+use Rattle.drc_container.specs.declared.choice.predicts.Predict.{Predict}
+use Rattle.drc_container.specs.choice.Predicts.{plain_of, asked}
+use Rattle.drc_container.specs.choice.CanCode.{wraps}
 use Rattle.drc_container.specs.Columns.{columns_of}
-use Rattle.drc_container.proofs.lemmas.writing.Extracted.{valued}
+use Rattle.drc_container.specs.writing.Written.{asked_values}
+use Rattle.drc_container.proofs.lemmas.writing.Asking.{can-ask}
 
 width-cons : (h : Head) (heads : List Head) → width_of (h ∷ heads) ≡ h.comps + width_of heads
 width-cons h heads = sum_by-cons (λ (x : Head). x.comps) h heads
 
--- the integers of the first attribute are in its type
-fits-first : (h : Head) (heads : List Head) (row : List ℤ) → RowFits (h ∷ heads) row → list_all (in_type h.dtype) (take h.comps row) ≡ true
+-- the integers of the first attribute are within its bounds
+fits-first : (h : Head) (heads : List Head) (row : List ℤ) → RowFits (h ∷ heads) row → list_all (in_bounds (bounds_of h)) (take h.comps row) ≡ true
 fits-first h heads row fits =
     let whole = width-cons h heads in
     let len : length (take h.comps row) ≡ h.comps = length-take-le h.comps row (omega (arith, whole, fits.0)) in
-    list_all-from_AllPass (in_type h.dtype) (take h.comps row) (All-from_get_or (λ x. in_type h.dtype x ≡ true) (take h.comps row) (pos 0) (λ j below.
+    list_all-from_AllPass (in_bounds (bounds_of h)) (take h.comps row) (All-from_get_or (λ x. in_bounds (bounds_of h) x ≡ true) (take h.comps row) (pos 0) (λ j below.
     let short : j < h.comps = omega (arith, below, len) in
-    let inside : j < length (replicate h.comps h.dtype) = omega (arith, short, length-replicate h.comps h.dtype) in
-    let typed : get_or (types_of (h ∷ heads)) j 0 ≡ h.dtype = get_or_append_left (replicate h.comps h.dtype) (types_of heads) 0 j inside ∙ get_or-replicate h.comps j h.dtype 0 short in
-    ap (in_type h.dtype) (get_or-take h.comps row j (pos 0) short)
-    ∙ sym (ap (λ t. in_type t (get_or row j (pos 0))) typed)
+    let inside : j < length (replicate h.comps (bounds_of h)) = omega (arith, short, length-replicate h.comps (bounds_of h)) in
+    let typed : get_or (row_bounds (h ∷ heads)) j no_bounds ≡ bounds_of h = get_or_append_left (replicate h.comps (bounds_of h)) (row_bounds heads) no_bounds j inside ∙ get_or-replicate h.comps j (bounds_of h) no_bounds short in
+    ap (in_bounds (bounds_of h)) (get_or-take h.comps row j (pos 0) short)
+    ∙ sym (ap (λ b. in_bounds b (get_or row j (pos 0))) typed)
     ∙ fits.1 j (omega (arith, whole, short))))
 
 -- the other integers fit the other attributes
@@ -44,10 +49,10 @@ fits-rest h heads row fits =
     let whole = width-cons h heads in (
       length-drop h.comps row ∙ omega (arith, whole, fits.0),
       λ j below.
-          let typed : get_or (types_of (h ∷ heads)) (h.comps + j) 0 ≡ get_or (types_of heads) j 0 =
-          ap (λ n. get_or (types_of (h ∷ heads)) (n + j) 0) (sym (length-replicate h.comps h.dtype)) ∙ get_or-append-add (replicate h.comps h.dtype) (types_of heads) j 0 in
-          ap (in_type (get_or (types_of heads) j 0)) (get_or-drop h.comps row j (pos 0))
-          ∙ sym (ap (λ t. in_type t (get_or row (h.comps + j) (pos 0))) typed)
+          let typed : get_or (row_bounds (h ∷ heads)) (h.comps + j) no_bounds ≡ get_or (row_bounds heads) j no_bounds =
+          ap (λ n. get_or (row_bounds (h ∷ heads)) (n + j) no_bounds) (sym (length-replicate h.comps (bounds_of h))) ∙ get_or-append-add (replicate h.comps (bounds_of h)) (row_bounds heads) j no_bounds in
+          ap (in_bounds (get_or (row_bounds heads) j no_bounds)) (get_or-drop h.comps row j (pos 0))
+          ∙ sym (ap (λ b. in_bounds b (get_or row (h.comps + j) (pos 0))) typed)
           ∙ fits.1 (h.comps + j) (omega (arith, whole, below)),
     )
 
@@ -59,48 +64,31 @@ column-length comps (row ∷ rows) wide =
     let rest = column-length comps rows (All-tail (λ (r : List ℤ). comps ≤ length r) row rows wide) in
     length-append (take comps row) (flat_map (λ row. take comps row) rows) ∙ omega (arith, first, rest)
 
--- a column is in its type where each of its pieces is
-column-typed : (dtype comps : ℕ) (rows : List (List ℤ)) → All (λ row. list_all (in_type dtype) (take comps row) ≡ true) rows → list_all (in_type dtype) (flat_map (λ row. take comps row) rows) ≡ true
-column-typed dtype comps [] typed = refl
-column-typed dtype comps (row ∷ rows) typed =
-    list_all-append (in_type dtype) (take comps row) (flat_map (λ row. take comps row) rows)
-    ∙ and_from _ _ (All-head (λ (r : List ℤ). list_all (in_type dtype) (take comps r) ≡ true) row rows typed)
-    (column-typed dtype comps rows (All-tail (λ (r : List ℤ). list_all (in_type dtype) (take comps r) ≡ true) row rows typed))
+-- a column is within bounds where each of its pieces is
+column-typed : (b : Bounds) (comps : ℕ) (rows : List (List ℤ)) → All (λ row. list_all (in_bounds b) (take comps row) ≡ true) rows → list_all (in_bounds b) (flat_map (λ row. take comps row) rows) ≡ true
+column-typed b comps [] typed = refl
+column-typed b comps (row ∷ rows) typed =
+    list_all-append (in_bounds b) (take comps row) (flat_map (λ row. take comps row) rows)
+    ∙ and_from _ _ (All-head (λ (r : List ℤ). list_all (in_bounds b) (take comps r) ≡ true) row rows typed)
+    (column-typed b comps rows (All-tail (λ (r : List ℤ). list_all (in_bounds b) (take comps r) ≡ true) row rows typed))
 
 -- columns have as many values as the rows have integers
-pub columns-total : (predict : ℤ) (heads : List Head) (rows : List (List ℤ)) → All (RowFits heads) rows
-    → values_in (valued predict (columns_of heads rows)) ≡ length rows * width_of heads
-columns-total predict [] rows fit = omega arith
-columns-total predict (h ∷ heads) rows fit =
+pub columns-total : (p : Predict) (heads : List Head) (rows : List (List ℤ)) → All (RowFits heads) rows
+    → values_in (asked_values p heads (columns_of heads rows)) ≡ length rows * width_of heads
+columns-total p [] rows fit = omega arith
+columns-total p (h ∷ heads) rows fit =
     let n = length rows in
     let whole = width-cons h heads in
     let column = flat_map (λ (row : List ℤ). take h.comps row) rows in
-    let v : Values = record { values = column; predict = predict; at = 0 } in
+    let v : Values = record { values = column; predict = asked p h; at = 0 } in
     let others = map (λ (row : List ℤ). drop h.comps row) rows in
     let same : length others ≡ n = length-map rows (λ (row : List ℤ). drop h.comps row) in
     let len : length column ≡ n * h.comps = column-length h.comps rows (All-weaker (RowFits (h ∷ heads)) (λ row. h.comps ≤ length row) (λ row fits. omega (arith, whole, fits.0)) rows fit) in
     let all : n * width_of (h ∷ heads) ≡ n * h.comps + n * width_of heads = ap (λ w. n * w) whole ∙ omega arith in
-    let rest : values_in (valued predict (columns_of heads others)) ≡ n * width_of heads =
-    columns-total predict heads others (All-map (RowFits heads) (λ row. drop h.comps row) rows (All-weaker (RowFits (h ∷ heads)) (λ row. RowFits heads (drop h.comps row)) (λ row fits. fits-rest h heads row fits) rows fit))
+    let rest : values_in (asked_values p heads (columns_of heads others)) ≡ n * width_of heads =
+    columns-total p heads others (All-map (RowFits heads) (λ row. drop h.comps row) rows (All-weaker (RowFits (h ∷ heads)) (λ row. RowFits heads (drop h.comps row)) (λ row fits. fits-rest h heads row fits) rows fit))
     ∙ ap (λ k. k * width_of heads) same in
-    sum_by-cons (λ (x : Values). length x.values) v (valued predict (columns_of heads others)) ∙ omega (arith, len, all, rest)
-
--- the values of attributes may have this prediction without a surface
-pub record ArePredicted (q : Prediction) (values : List Values) : Type 0 where
-  pub alone : (facts q).needs_surface ≡ false
-  pub near : (facts q).corrects ≡ true → All (λ v. CanWrap (range_of v.values)) values
-
-ArePredicted-first : (q : Prediction) (v : Values) (values : List Values) (comps : ℕ) → ArePredicted q (v ∷ values) → CanPredict None comps v.values q
-ArePredicted-first q v values comps are = record {
-  wrap = λ corrects. All-head (λ (x : Values). CanWrap (range_of x.values)) v values (are.near corrects);
-  stand = record { stand = λ needs. absurd (false≢true (sym are.alone ∙ needs)) };
-}
-
-ArePredicted-rest : (q : Prediction) (v : Values) (values : List Values) → ArePredicted q (v ∷ values) → ArePredicted q values
-ArePredicted-rest q v values are = record {
-  alone = are.alone;
-  near = λ corrects. All-tail (λ (x : Values). CanWrap (range_of x.values)) v values (are.near corrects);
-}
+    sum_by-cons (λ (x : Values). length x.values) v (asked_values p heads (columns_of heads others)) ∙ omega (arith, len, all, rest)
 
 -- the values of attributes may be those of n entries
 pub record ColumnsPass (n : ℕ) (heads : List Head) (values : List Values) : Type 0 where
@@ -109,30 +97,35 @@ pub record ColumnsPass (n : ℕ) (heads : List Head) (values : List Values) : Ty
   pub total : values_in values ≡ n * width_of heads
   pub each_head : length values ≡ length heads
 
-pub columns_pass : (q : Prediction) (heads : List Head) (rows : List (List ℤ)) → All HeadSays heads → All (RowFits heads) rows → 0 < length rows
-    → length rows * width_of heads ≤ MAX_VALUES → ArePredicted q (valued (code_of q) (columns_of heads rows))
-    → ColumnsPass (length rows) heads (valued (code_of q) (columns_of heads rows))
-columns_pass q [] rows say fit some few predicted = record {
+-- attributes with these heads lie near enough, where they wrap
+abbrev AreNear : List Head → List Values → Type 0
+AreNear heads values = All (λ (h, v). wraps h v ≡ true → CanWrap (range_of v.values)) (zip heads values)
+
+pub columns_pass : (p : Predict) (heads : List Head) (rows : List (List ℤ)) → (facts (plain_of p)).needs_surface ≡ false → All HeadSays heads → All (RowFits heads) rows → 0 < length rows
+    → length rows * width_of heads ≤ MAX_VALUES → AreNear heads (asked_values p heads (columns_of heads rows))
+    → ColumnsPass (length rows) heads (asked_values p heads (columns_of heads rows))
+columns_pass p [] rows alone say fit some few near = record {
   each = All-nil (λ (h, v). ValuesPass None h v);
   entries = All-nil (λ (h, v). length v.values ≡ length rows * h.comps);
   total = omega arith;
   each_head = refl;
 }
-columns_pass q (h ∷ heads) rows say fit some few predicted =
+columns_pass p (h ∷ heads) rows alone say fit some few near =
     let n = length rows in
     let whole = width-cons h heads in
     let says : HeadSays h = All-head HeadSays h heads say in
     let column = flat_map (λ (row : List ℤ). take h.comps row) rows in
-    let v : Values = record { values = column; predict = code_of q; at = 0 } in
+    let v : Values = record { values = column; predict = asked p h; at = 0 } in
     let others = map (λ (row : List ℤ). drop h.comps row) rows in
-    let values = valued (code_of q) (columns_of heads others) in
+    let values = asked_values p heads (columns_of heads others) in
+    let Near : Head × Values → Type 0 = λ (x, y). wraps x y ≡ true → CanWrap (range_of y.values) in
     let same : length others ≡ n = length-map rows (λ (row : List ℤ). drop h.comps row) in
     let len : length column ≡ n * h.comps = column-length h.comps rows (All-weaker (RowFits (h ∷ heads)) (λ row. h.comps ≤ length row) (λ row fits. omega (arith, whole, fits.0)) rows fit) in
     let all : n * width_of (h ∷ heads) ≡ n * h.comps + n * width_of heads = ap (λ w. n * w) whole ∙ omega arith in
     let rest : ColumnsPass (length others) heads values =
-    columns_pass q heads others (All-tail HeadSays h heads say)
+    columns_pass p heads others alone (All-tail HeadSays h heads say)
     (All-map (RowFits heads) (λ row. drop h.comps row) rows (All-weaker (RowFits (h ∷ heads)) (λ row. RowFits heads (drop h.comps row)) (λ row fits. fits-rest h heads row fits) rows fit))
-    (omega (arith, some, same)) (subst (λ m. m * width_of heads ≤ MAX_VALUES) (sym same) (omega (arith, few, all))) (ArePredicted-rest q v values predicted) in
+    (omega (arith, some, same)) (subst (λ m. m * width_of heads ≤ MAX_VALUES) (sym same) (omega (arith, few, all))) (All-tail Near (h, v) (zip heads values) near) in
     let others_pass : ColumnsPass n heads values = subst (λ m. ColumnsPass m heads values) same rest in
     let there : 1 ≤ n * h.comps = product_some n h.comps some says.some in
     record {
@@ -141,8 +134,9 @@ columns_pass q (h ∷ heads) rows say fit some few predicted =
         some = omega (arith, len, there);
         few = omega (arith, len, all, few);
         whole = rw len (mul-mod_left n h.comps);
-        typed = column-typed h.dtype h.comps rows (All-weaker (RowFits (h ∷ heads)) (λ row. list_all (in_type h.dtype) (take h.comps row) ≡ true) (λ row fits. fits-first h heads row fits) rows fit);
-        predicted = (q, refl, ArePredicted-first q v values h.comps predicted);
+        bounded = column-typed (bounds_of h) h.comps rows (All-weaker (RowFits (h ∷ heads)) (λ row. list_all (in_bounds (bounds_of h)) (take h.comps row) ≡ true) (λ row fits. fits-first h heads row fits) rows fit);
+        asked = can-ask p h None v says refl (All-head Near (h, v) (zip heads values) near)
+            (record { stand = λ needs. absurd (false≢true (sym alone ∙ needs)) }) (λ two. tt);
       }) others_pass.each;
       entries = All-cons (λ (h, v). length v.values ≡ n * h.comps) (h, v) (zip heads values) len others_pass.entries;
       total = sum_by-cons (λ (x : Values). length x.values) v values ∙ omega (arith, len, all, others_pass.total);

@@ -9,7 +9,10 @@ use Rattle.std.proofs.lemmas.Simd.{map-map}
 use Rattle.attr_heads.specs.declared.heads.Head.{Head}
 use Rattle.attr_heads.specs.Head.{width_of}
 use Rattle.attr_section.specs.declared.values.Values.{Values}
+use Rattle.drc_container.specs.declared.choice.predicts.Predict.{Predict}
 use Rattle.drc_container.specs.Columns.{columns_of}
+use Rattle.drc_container.specs.choice.Predicts.{asked}
+use Rattle.drc_container.specs.writing.Written.{asked_values}
 
 -- one point more of a column
 pub column-next : (piece : List ℤ → List ℤ) (points : List (List ℤ)) (i : ℕ) (d : List ℤ) → i < length points
@@ -23,36 +26,36 @@ column-next piece points i d has =
 pub column-end : (piece : List ℤ → List ℤ) (points : List (List ℤ)) (i : ℕ) → length points ≤ i → flat_map piece (take i points) ≡ flat_map piece points
 column-end piece points i done = ap (flat_map piece) (take_all i points done)
 
--- columns as values with this prediction
-abbrev pub valued : ℤ → List (List ℤ) → List Values
-valued predict columns = map (λ column. record { values = column; predict = predict; at = 0 }) columns
-
 -- the columns from attribute k on, whose integers begin at `start` in each point
 abbrev pub columns_from : List Head → List (List ℤ) → ℕ → ℕ → List (List ℤ)
 columns_from heads points k start = columns_of (drop k heads) (map (λ row. drop start row) points)
 
+-- their values
+abbrev pub values_from : Predict → List Head → List (List ℤ) → ℕ → ℕ → List Values
+values_from p heads points k start = asked_values p (drop k heads) (columns_from heads points k start)
+
 -- the first attribute begins with a point
-pub values-start : (predict : ℤ) (heads : List Head) (points : List (List ℤ)) → [] ++ valued predict (columns_from heads points 0 0) ≡ valued predict (columns_of heads points)
-values-start predict heads points = ap (λ rows. valued predict (columns_of heads rows)) (map-id points)
+pub values-start : (p : Predict) (heads : List Head) (points : List (List ℤ)) → [] ++ values_from p heads points 0 0 ≡ asked_values p heads (columns_of heads points)
+values-start p heads points = ap (λ rows. asked_values p heads (columns_of heads rows)) (map-id points)
 
 -- one attribute more
-pub values-next : (predict : ℤ) (heads : List Head) (points : List (List ℤ)) (k start : ℕ) (h : Head) (column : List ℤ) (front whole : List Values)
-    → front ++ valued predict (columns_from heads points k start) ≡ whole → k < length heads → h ≡ get_or heads k h
+pub values-next : (p : Predict) (heads : List Head) (points : List (List ℤ)) (k start : ℕ) (h : Head) (column : List ℤ) (front whole : List Values)
+    → front ++ values_from p heads points k start ≡ whole → k < length heads → h ≡ get_or heads k h
     → column ≡ flat_map (λ row. take h.comps (drop start row)) points
-    → (front ++ record { values = column; predict = predict; at = 0 } ∷ []) ++ valued predict (columns_from heads points (k + 1) (start + h.comps)) ≡ whole
-values-next predict heads points k start h column front whole so has is_h is_column =
+    → (front ++ record { values = column; predict = asked p h; at = 0 } ∷ []) ++ values_from p heads points (k + 1) (start + h.comps) ≡ whole
+values-next p heads points k start h column front whole so has is_h is_column =
     let rows = map (λ (row : List ℤ). drop start row) points in
     let piece : flat_map (λ row. take h.comps row) rows ≡ column = flat_map-map (λ (row : List ℤ). take h.comps row) (λ (row : List ℤ). drop start row) points ∙ sym is_column in
     let rest : map (λ row. drop h.comps row) rows ≡ map (λ row. drop (start + h.comps) row) points =
     map-map (λ (row : List ℤ). drop h.comps row) (λ (row : List ℤ). drop start row) points ∙ ap (λ (f : List ℤ → List ℤ). map f points) (λ i row. drop-drop h.comps start row i) in
-    append_assoc front (record { values = column; predict = predict; at = 0 } ∷ []) (valued predict (columns_from heads points (k + 1) (start + h.comps)))
+    append_assoc front (record { values = column; predict = asked p h; at = 0 } ∷ []) (values_from p heads points (k + 1) (start + h.comps))
     ∙ ap (λ l. front ++ l) (sym (rw (drop-cons heads k h has, ← is_h, piece, rest, add-one k) refl))
     ∙ so
 
 -- no attribute is left
-pub values-end : (predict : ℤ) (heads : List Head) (points : List (List ℤ)) (k start : ℕ) (front whole : List Values)
-    → front ++ valued predict (columns_from heads points k start) ≡ whole → length heads ≤ k → front ≡ whole
-values-end predict heads points k start front whole so done =
+pub values-end : (p : Predict) (heads : List Head) (points : List (List ℤ)) (k start : ℕ) (front whole : List Values)
+    → front ++ values_from p heads points k start ≡ whole → length heads ≤ k → front ≡ whole
+values-end p heads points k start front whole so done =
     sym (append-nil front) ∙ ap (λ l. front ++ l) (sym (rw (drop_all k heads done) refl)) ∙ so
 
 -- the integers of an attribute lie in a point

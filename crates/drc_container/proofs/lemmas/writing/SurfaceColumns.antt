@@ -1,9 +1,9 @@
--- The columns that are written of a mesh by Edgebreaker: each is in the type of its head, and has a value of each component for each entry.
+-- The columns that are written of a mesh by Edgebreaker: each is within the bounds of its head, and has a value of each component for each entry.
 use Rattle.std.proofs.Common.{◌≡◌, ℕ, ◌*◌, ◌<◌, Bool, true, false, List, length, get_or, refl, sym, subst, arith}
 use Rattle.std.specs.Prelude.{if◌then◌else◌}
 use Rattle.std.specs.List.{list_all}
 use Rattle.attr_heads.specs.declared.heads.Head.{Head}
-use Rattle.attr_heads.specs.DataTypes.{in_type}
+use Rattle.attr_heads.specs.Bounds.{in_bounds, bounds_of}
 use Rattle.mesh_model.specs.Parts.{MeshParts, IsMesh}
 use Rattle.corner_table.specs.Sides.{Side, Gluing, IsGluing}
 use Rattle.seams.specs.Seams.{unseamed}
@@ -57,14 +57,14 @@ walk-some coding m is can k =
     subst (λ (order : List Side). 0 < length order) (sym (walk-corners coding d k))
     (order-some (is_by_degree coding d k) (length d.mesh.faces) (cut_of d k) (cut-gluing d k D.gluing) (omega (arith, D.faces, can.some)))
 
--- the values of attribute k are in the type of its head
+-- the values of attribute k are within the bounds of its head
 pub columns-typed : (coding : Coding) (m : MeshParts) → IsMesh m → CanCodeSurface coding m → (k : ℕ) (h : Head) → k < length m.heads
-    → list_all (in_type (get_or m.heads k h).dtype) (coded_by coding (decoded m) k).values ≡ true
+    → list_all (in_bounds (bounds_of (get_or m.heads k h))) (coded_by coding (decoded m) k).values ≡ true
 columns-typed coding m is can k h has =
     let d = decoded m in
     let D = decoded-keeps m is can.proper in
     let within : k < length d.mesh.heads = subst (λ (heads : List Head). k < length heads) (sym D.heads) has in
-    subst (λ (heads : List Head). list_all (in_type (get_or heads k h).dtype) (coded_by coding d k).values ≡ true) D.heads
+    subst (λ (heads : List Head). list_all (in_bounds (bounds_of (get_or heads k h))) (coded_by coding d k).values ≡ true) D.heads
     (pieces-typed d.mesh D.mesh k h within (surface_order coding d k).corners (walk-on coding d k))
 
 -- and as many as its entries have components

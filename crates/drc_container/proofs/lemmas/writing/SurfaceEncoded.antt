@@ -1,5 +1,5 @@
 -- What holds of an encoding by Edgebreaker, step by step, holds of the mesh.
-use Rattle.std.proofs.Common.{◌≡◌, ℕ, ◌-◌, ◌<◌, ◌≤◌, true, List, [], ◌∷◌, ◌++◌, length, map, Option, Some, None, Ok, sym, ap, ◌∙◌, subst, arith}
+use Rattle.std.proofs.Common.{◌≡◌, ℕ, ◌-◌, ◌<◌, ◌≤◌, List, [], ◌∷◌, ◌++◌, length, map, Option, Some, None, Ok, sym, ap, ◌∙◌, subst, arith}
 use Rattle.std.specs.Prelude.{nat_le}
 use Rattle.std.specs.List.{All, enumerate_from}
 use Rattle.std.proofs.lemmas.Bool.{leb-true}
@@ -8,6 +8,7 @@ use Rattle.drc_base.specs.declared.faults.Fault.{Fault}
 use Rattle.drc_base.specs.declared.faults.Refusal.{Refusal}
 use Rattle.drc_base.specs.declared.kinds.Kind.TheVariants.{PointLimit, ValueLimit}
 use Rattle.drc_base.specs.declared.limits.TheConstants.{MAX_POINTS, MAX_VALUES}
+use Rattle.drc_base.specs.Profile.{profile_numbered}
 use Rattle.drc_base.specs.Refusals.{Refuses}
 use Rattle.drc_bits.specs.Spells.{Spells}
 use Rattle.attr_heads.specs.declared.heads.Head.{Head}
@@ -24,21 +25,18 @@ use Rattle.pairing.specs.Degenerate.{degenerate_fault}
 use Rattle.eb_trace.specs.declared.tracing.Traced.{Traced}
 use Rattle.eb_trace.specs.Trace.{fan_count}
 use Rattle.eb_section.specs.ReadAgain.{IsReadAgain}
-use Rattle.predict.specs.Wrap.{CanWrap}
 use Rattle.attr_section.specs.declared.values.Values.{Values}
 use Rattle.attr_section.specs.Heads.{bare_decoder, heads_at}
-use Rattle.attr_section.specs.Values.{values_in}
-use Rattle.attr_section.specs.Written.{range_of}
-use Rattle.predict.specs.declared.schemes.Prediction.{Prediction}
-use Rattle.predict.specs.Schemes.{facts}
+use Rattle.attr_section.specs.Attributes.{values_in}
 use Rattle.drc_container.specs.declared.choice.codings.Coding.{Coding}
 use Rattle.drc_container.specs.writing.Written.{header_bytes}
 use Rattle.drc_container.specs.writing.WrittenOnSurface.{traced, GluedMesh, decoded, coded_values, decoders_for, seam_lists, values_bytes_on, decoder_heads_bytes, connectivity_of, edgebreaker_bytes}
-use Rattle.drc_container.specs.choice.Refused.{vertices_fault, limit_fault, predicted_range_fault, tracing_fault, values_fault, coding_fault}
+use Rattle.drc_container.specs.choice.Refused.{vertices_fault, limit_fault, range_fault, tracing_fault, values_fault, coding_fault}
 use Rattle.drc_container.specs.writing.Encoded.{CanCodeSurface, AttributeSpelled, SurfaceSpelled}
 use Rattle.drc_container.specs.choice.CanCode.{CanCode}
+use Rattle.drc_container.specs.choice.Predicts.{needed_number}
 use Rattle.drc_container.specs.surface.AttributeSurfaces.{glued_by}
-use Rattle.drc_container.proofs.lemmas.choice.FirstRefusals.{refuses-alike, value-given, wraps}
+use Rattle.drc_container.proofs.lemmas.choice.FirstRefusals.{refuses-alike, value-given, values-coded}
 use Rattle.drc_container.proofs.lemmas.surface.Decoded.{decoded-keeps}
 
 -- a value that is given is the one that is due
@@ -87,11 +85,12 @@ vertices-few m t d is = omega (arith, ap (λ (x : Traced). x.vertices) is.trace,
 -- what is left to refuse
 fault-is : (coding : Coding) (m : MeshParts) (t : Traced) (d : GluedMesh) → IsTracedTo m t d → coding_fault coding m ≡ values_fault coding d
 fault-is coding m t d is =
-    let rest : List Values → List (Option Fault) = λ vs. limit_fault vs ∷ predicted_range_fault coding.predict vs ∷ [] in
+    let rest : List Head → List Values → List (Option Fault) = λ hs vs. limit_fault vs ∷ range_fault hs vs ∷ [] in
     let own = coded_values coding (decoded m) in
-    ap (λ (f : Option Fault). first_fault (f ∷ vertices_fault m ∷ rest own)) is.proper
-    ∙ ap (λ (f : Option Fault). first_fault (f ∷ rest own)) is.few
-    ∙ ap (λ (g : GluedMesh). first_fault (rest (coded_values coding g))) (sym is.decoded)
+    ap (λ (f : Option Fault). first_fault (f ∷ vertices_fault m ∷ rest m.heads own)) is.proper
+    ∙ ap (λ (f : Option Fault). first_fault (f ∷ rest m.heads own)) is.few
+    ∙ ap (λ (hs : List Head). first_fault (rest hs own)) (sym is.heads)
+    ∙ ap (λ (g : GluedMesh). first_fault (rest d.mesh.heads (coded_values coding g))) (sym is.decoded)
 
 -- a refusal of values is one of the mesh
 pub values-refuse : {A B : Type 0} (coding : Coding) (m : MeshParts) (t : Traced) (d : GluedMesh) (x : A) (y : B) (e : Refusal) → IsTracedTo m t d
@@ -99,44 +98,38 @@ pub values-refuse : {A B : Type 0} (coding : Coding) (m : MeshParts) (t : Traced
 values-refuse {A} {B} coding m t d x y e is refuses =
     subst (λ (f : Option Fault). Refuses (value_unless f x) e) (sym (fault-is coding m t d is)) (refuses-alike (values_fault coding d) y x e refuses)
 
--- values that are corrected lie near enough
-may-wrap : (p : Prediction) (values : List Values) → predicted_range_fault p values ≡ None → (facts p).corrects ≡ true → All (λ v. CanWrap (range_of v.values)) values
-may-wrap p values none corrects = wraps values (rw corrects at none)
-
+-- values without a fault can be coded
 pub values-can : (coding : Coding) (d : GluedMesh) (values : List Values)
-    → value_unless (values_fault coding d) (coded_values coding d) ≡ Ok values → CanCode coding.predict (coded_values coding d)
+    → value_unless (values_fault coding d) (coded_values coding d) ≡ Ok values → CanCode d.mesh.heads (coded_values coding d)
 values-can coding d values given =
     let vs = coded_values coding d in
     let none : values_fault coding d ≡ None = value-given (values_fault coding d) vs values given in
-    let first = first_fault-none (limit_fault vs) (predicted_range_fault coding.predict vs ∷ []) none in
-    let second = first_fault-none (predicted_range_fault coding.predict vs) [] first.1 in
-    record {
-      few = leb-true (values_in vs) MAX_VALUES (unless-none (nat_le (values_in vs) MAX_VALUES) ValueLimit (values_in vs) first.0);
-      near = may-wrap coding.predict vs second.0;
-    }
+    let first = first_fault-none (limit_fault vs) (range_fault d.mesh.heads vs ∷ []) none in
+    let second = first_fault-none (range_fault d.mesh.heads vs) [] first.1 in
+    values-coded d.mesh.heads vs (leb-true (values_in vs) MAX_VALUES (unless-none (nat_le (values_in vs) MAX_VALUES) ValueLimit (values_in vs) first.0)) second.0
 
-pub surface-can : (coding : Coding) (m : MeshParts) (t : Traced) (d : GluedMesh) → IsTracedTo m t d → 0 < length m.faces → CanCode coding.predict (coded_values coding d) → CanCodeSurface coding m
+pub surface-can : (coding : Coding) (m : MeshParts) (t : Traced) (d : GluedMesh) → IsTracedTo m t d → 0 < length m.faces → CanCode d.mesh.heads (coded_values coding d) → CanCodeSurface coding m
 surface-can coding m t d is some can =
     record {
       some = some;
       proper = is.proper;
       few_vertices = fans-few m is.few;
-      values = subst (λ (g : GluedMesh). CanCode coding.predict (coded_values coding g)) is.decoded can;
+      values = subst (λ (g : GluedMesh). CanCode m.heads (coded_values coding g)) is.decoded (subst (λ (hs : List Head). CanCode hs (coded_values coding d)) is.heads can);
     }
 
 -- ---- the stream is written
 
 -- what holds of the attributes
 pub record AreSpelled (coding : Coding) (d : GluedMesh) : Type 0 where
-  pub heads : Spells (heads_at (Some (length d.mesh.heads - 1))) (decoder_heads_bytes coding d) (map bare_decoder (decoders_for coding d))
-  pub again : All (λ (k, h). AttributeSpelled coding d k h) (enumerate_from 0 d.mesh.heads)
+  pub heads : Spells (heads_at (profile_numbered (needed_number coding.predict d.mesh.heads)) (Some (length d.mesh.heads - 1))) (decoder_heads_bytes coding d) (map bare_decoder (decoders_for coding d))
+  pub again : All (λ (k, h). AttributeSpelled (needed_number coding.predict d.mesh.heads) coding d k h) (enumerate_from 0 d.mesh.heads)
 
 -- holds of the mesh
 pub surface-spelled : (coding : Coding) (m : MeshParts) (t : Traced) (d : GluedMesh) → IsTracedTo m t d
     → IsReadAgain coding.valence (length m.faces) (traced m) (seam_lists (decoded m)) (connectivity_of coding.valence m) → AreSpelled coding d → SurfaceSpelled coding m
 surface-spelled coding m t d is again spelled =
-    let B : List Head → GluedMesh → Type 0 = λ hs g. Spells (heads_at (Some (length hs - 1))) (decoder_heads_bytes coding g) (map bare_decoder (decoders_for coding g)) in
-    let C : List Head → GluedMesh → Type 0 = λ hs g. All (λ (k, h). AttributeSpelled coding g k h) (enumerate_from 0 hs) in
+    let B : List Head → GluedMesh → Type 0 = λ hs g. Spells (heads_at (profile_numbered (needed_number coding.predict hs)) (Some (length hs - 1))) (decoder_heads_bytes coding g) (map bare_decoder (decoders_for coding g)) in
+    let C : List Head → GluedMesh → Type 0 = λ hs g. All (λ (k, h). AttributeSpelled (needed_number coding.predict hs) coding g k h) (enumerate_from 0 hs) in
     record {
       connectivity = again;
       heads = subst (λ (g : GluedMesh). B m.heads g) is.decoded (subst (λ (hs : List Head). B hs d) is.heads spelled.heads);

@@ -1,7 +1,8 @@
 -- A stream that is written by Edgebreaker is coded as chosen.
-use Rattle.std.proofs.Common.{◌≡◌, ℕ, ◌+◌, ◌-◌, false, Bool, List, [], ◌∷◌, ◌++◌, map, length, drop, get_or, Option, None, Some, Ok, refl, sym, ◌∙◌, ap, arith, append_assoc, append-nil, length-append, if◌then◌else◌}
-use Rattle.std.specs.Prelude.{ℤ, slice_index}
-use Rattle.std.specs.List.{flat_map, range_with_len, enumerate_from}
+use Rattle.std.proofs.Common.{◌≡◌, ℕ, ◌+◌, ◌-◌, false, Bool, List, [], ◌∷◌, ◌++◌, map, length, drop, get_or, Option, None, Some, Ok, refl, sym, ◌∙◌, ap, arith, append_assoc, append-nil, length-append, subst, if◌then◌else◌}
+use Rattle.std.specs.Prelude.{slice_index}
+use Rattle.std.specs.List.{All, flat_map, range_with_len, enumerate_from, zip}
+use Rattle.std.proofs.lemmas.List.Elements.{All-head, All-tail}
 use Rattle.std.proofs.lemmas.List.{get_or-append-add}
 use Rattle.std.proofs.Math.Seq.{drop-append_seam}
 use Rattle.drc_base.specs.Steps.{◌>>=◌}
@@ -10,84 +11,84 @@ use Rattle.attr_heads.specs.declared.heads.Head.{Head}
 use Rattle.mesh_model.specs.declared.geometries.Geometry.TheVariants.{Mesh}
 use Rattle.mesh_model.specs.Parts.{MeshParts, IsMesh}
 use Rattle.attr_heads.proofs.Passing.{heads_say}
-use Rattle.corner_table.specs.Ordered.{Ordered}
 use Rattle.eb_section.specs.Written.{connectivity_bytes, opening_bytes}
-use Rattle.predict.specs.declared.schemes.Prediction.{Prediction}
-use Rattle.predict.specs.Schemes.{code_of, prediction_coded}
-use Rattle.attr_section.specs.declared.values.Values.{Values}
 use Rattle.attr_section.specs.Heads.{position_id, bare_decoder, heads_at}
-use Rattle.attr_section.specs.Written.{values_bytes, quants_bytes, decoder_values_bytes}
+use Rattle.attr_section.specs.Written.{values_bytes, ends_bytes, decoder_values_bytes, CanAsk}
 use Rattle.drc_container.specs.declared.choice.codings.Coding.{Coding}
 use Rattle.drc_container.specs.declared.choice.methods.Method.{Method}
 use Rattle.drc_container.specs.declared.choice.methods.Method.TheVariants as method
 use Rattle.drc_container.specs.declared.choice.choices.Choice.{Choice}
-use Rattle.drc_container.specs.choice.Choice.{method_of, is_sequential, is_valence}
-use Rattle.drc_container.specs.reading.Stream.{stream}
-use Rattle.drc_container.specs.writing.Written.{header_bytes}
-use Rattle.drc_container.specs.writing.WrittenOnSurface.{GluedMesh, decoded, is_cornered, is_by_degree, surface_order, coded_by, decoder_for, decoders_for, attribute_bytes, values_bytes_on, decoder_heads_bytes, connectivity_of, edgebreaker_bytes}
+use Rattle.drc_container.specs.choice.Choice.{method_of, is_sequential, is_valence, predict_chosen}
+use Rattle.drc_container.specs.choice.CanCode.{CanCode}
+use Rattle.drc_container.specs.reading.Stream.{stream_in}
+use Rattle.drc_container.specs.writing.Written.{header_bytes, values_of}
+use Rattle.drc_container.specs.writing.WrittenOnSurface.{GluedMesh, decoded, is_cornered, is_by_degree, surface_order, coded_by, coded_values, positions_before, decoder_for, decoders_for, attribute_bytes, values_bytes_on, decoder_heads_bytes, connectivity_of, edgebreaker_bytes}
 use Rattle.drc_container.specs.writing.Chosen.{coding_of}
 use Rattle.drc_container.specs.writing.Encoded.{CanCodeSurface, SurfaceSpelled}
-use Rattle.drc_container.specs.writing.Layout.{compressed_behind, AttrLayout, Layout, attr_layouts, links_of, attr_data_of, links_layout, traversal_layout, traversal_of, index_layout, layout_by, layout_of, method_byte, bit_byte, attr_coded, attr_on_surface, layout_chosen}
+use Rattle.drc_container.specs.writing.Layout.{compressed_behind, AttrLayout, Layout, attr_layouts, links_of, attr_data_of, links_layout, traversal_layout, traversal_of, index_layout, layout_by, method_byte, bit_byte, attr_in_order, attr_on_surface, layout_chosen, IsLaidOut}
 use Rattle.drc_container.proofs.lemmas.reading.HeadsBeside.{heads-more}
 use Rattle.drc_container.proofs.lemmas.writing.Layouts.{compressed_byte, values-first}
-use Rattle.drc_container.proofs.lemmas.writing.SurfaceWritten.{surface_place, heads_place, values_place, attrs_written, info_written, meaning_written}
+use Rattle.drc_container.proofs.lemmas.surface.Decoded.{decoded-keeps}
+use Rattle.drc_container.proofs.lemmas.writing.SurfaceParts.{attribute-asks}
+use Rattle.drc_container.proofs.lemmas.writing.SurfaceDecoders.{numbered-each}
+use Rattle.drc_container.proofs.lemmas.writing.SurfaceRead.{profile_for}
+use Rattle.drc_container.proofs.lemmas.writing.SurfaceWritten.{settled_on, surface_place, heads_place, values_place, attrs_written, info_written, meaning_written}
 
--- how far the byte that says whether values are compressed stands behind the byte of a prediction
-abbrev skipped : ℤ → ℕ
-skipped predict = compressed_behind (prediction_coded predict)
+-- values of attribute k, which has this head, may have what is asked of them
+abbrev pub Asks : Coding → GluedMesh → ℕ × Head → Type 0
+Asks coding d (k, h) = CanAsk (Some (surface_order coding d k)) h.octa h.comps (coded_by coding d k).predict (coded_by coding d k).values
 
--- where it stands in the values of a decoder, and of an attribute
-column-first : (plain : Bool) (w : Ordered) (h : Head) (values : List ℤ) (predict : ℤ) (q : Prediction) (rest : List ℕ) → predict ≡ code_of q
-    → get_or (decoder_values_bytes plain (Some w) (h ∷ []) (record { values = values; predict = predict; at = 0 } ∷ []) ++ rest) (skipped predict) 0 ≡ compressed_byte plain
+-- where the byte stands that says whether they are compressed, in the values of an attribute
+attribute-first : (coding : Coding) (d : GluedMesh) (k : ℕ) (h : Head) (rest : List ℕ) → Asks coding d (k, h)
+    → get_or (attribute_bytes coding d k h ++ rest) (compressed_behind (settled_on coding d k h)) 0 ≡ compressed_byte coding.plain
 unfolding decoder_values_bytes
-column-first plain w h values predict q rest is =
-    let v : Values = record { values = values; predict = code_of q; at = 0 } in
-    let this = values_bytes plain (Some w) h.comps v in
-    let quants = quants_bytes (h ∷ []) in
-    let parted : ((this ++ []) ++ quants) ++ rest ≡ this ++ (quants ++ rest) =
-    ap (λ l. (l ++ quants) ++ rest) (append-nil this) ∙ append_assoc this quants rest in
-    rw is (ap (λ l. get_or l (skipped (code_of q)) 0) parted ∙ values-first plain (Some w) h.comps values q (quants ++ rest))
-
-attribute-first : (coding : Coding) (d : GluedMesh) (k : ℕ) (h : Head) (rest : List ℕ)
-    → get_or (attribute_bytes coding d k h ++ rest) (skipped (code_of coding.predict)) 0 ≡ compressed_byte coding.plain
-attribute-first coding d k h rest =
-    column-first coding.plain (surface_order coding d k) h (coded_by coding d k).values (code_of coding.predict) (coding.predict) rest refl
+attribute-first coding d k h rest asks =
+    let w = Some (surface_order coding d k) in
+    let found = positions_before coding d k in
+    let v = coded_by coding d k in
+    let skip = compressed_behind (settled_on coding d k h) in
+    let this = values_bytes coding.plain w found h v in
+    let ends = ends_bytes (h ∷ []) in
+    let parted : ((this ++ []) ++ ends) ++ rest ≡ this ++ (ends ++ rest) =
+    ap (λ l. (l ++ ends) ++ rest) (append-nil this) ∙ append_assoc this ends rest in
+    ap (λ l. get_or l skip 0) parted ∙ values-first coding.plain w found h v (ends ++ rest) asks
 
 -- the element type and the walk of attribute k
 abbrev linked : Coding → GluedMesh → ℕ → ℕ × ℕ
 linked coding d k = (bit_byte (is_cornered d k), bit_byte (is_by_degree coding d k))
 
--- how attribute k is coded, with this byte
-abbrev coded_with : Coding → GluedMesh → ℕ → ℕ → AttrLayout
-coded_with coding d k compressed =
-    record { element = bit_byte (is_cornered d k); walk = bit_byte (is_by_degree coding d k); predict = code_of coding.predict; compressed = compressed }
+-- how attribute k, which has this head, is coded, with this byte
+abbrev coded_with : Coding → GluedMesh → ℕ → Head → ℕ → AttrLayout
+coded_with coding d k h compressed =
+    record { element = bit_byte (is_cornered d k); walk = bit_byte (is_by_degree coding d k); predict = settled_on coding d k h; compressed = compressed }
 
-abbrev coded : Coding → GluedMesh → ℕ → AttrLayout
-coded coding d k = coded_with coding d k (compressed_byte coding.plain)
+abbrev coded : Coding → GluedMesh → ℕ × Head → AttrLayout
+coded coding d (k, h) = coded_with coding d k h (compressed_byte coding.plain)
 
 -- the values of attributes from attribute k on
 abbrev values_from : Coding → GluedMesh → ℕ → List Head → List ℕ
 values_from coding d k heads = flat_map (λ (j, h). attribute_bytes coding d j h) (enumerate_from k heads)
 
 -- the attributes that stand in these bytes are coded so
-layouts : (coding : Coding) (d : GluedMesh) (bytes front : List ℕ) (place k : ℕ) (heads : List Head) → place ≡ length front → bytes ≡ front ++ values_from coding d k heads
+layouts : (coding : Coding) (d : GluedMesh) (bytes front : List ℕ) (place k : ℕ) (heads : List Head) → place ≡ length front → All (Asks coding d) (enumerate_from k heads)
+    → bytes ≡ front ++ values_from coding d k heads
     → attr_layouts bytes (map (linked coding d) (range_with_len k (length heads))) (attrs_written coding d place (enumerate_from k heads))
-    ≡ map (coded coding d) (range_with_len k (length heads))
-layouts coding d bytes front place k [] at is = refl
-layouts coding d bytes front place k (h ∷ heads) at is =
+    ≡ map (coded coding d) (enumerate_from k heads)
+layouts coding d bytes front place k [] at asks is = refl
+layouts coding d bytes front place k (h ∷ heads) at asks is =
     let this = attribute_bytes coding d k h in
     let others = values_from coding d (k + 1) heads in
     let links = map (linked coding d) (range_with_len (k + 1) (length heads)) in
-    let skip = skipped (code_of coding.predict) in
+    let skip = compressed_behind (settled_on coding d k h) in
     let byte : get_or bytes (place + skip) 0 ≡ compressed_byte coding.plain =
     ap (λ l. get_or l (place + skip) 0) is
     ∙ ap (λ p. get_or (front ++ (this ++ others)) (p + skip) 0) at
     ∙ get_or-append-add front (this ++ others) skip 0
-    ∙ attribute-first coding d k h others in
+    ∙ attribute-first coding d k h others (All-head (Asks coding d) (k, h) (enumerate_from (k + 1) heads) asks) in
     let again = layouts coding d bytes (front ++ this) (place + length this) (k + 1) heads
-    (omega (arith, at, length-append front this)) (is ∙ sym (append_assoc front this others)) in
-    ap (λ b. coded_with coding d k b ∷ attr_layouts bytes links (attrs_written coding d (place + length this) (enumerate_from (k + 1) heads))) byte
-    ∙ ap (λ l. coded coding d k ∷ l) again
+    (omega (arith, at, length-append front this)) (All-tail (Asks coding d) (k, h) (enumerate_from (k + 1) heads) asks) (is ∙ sym (append_assoc front this others)) in
+    ap (λ b. coded_with coding d k h b ∷ attr_layouts bytes links (attrs_written coding d (place + length this) (enumerate_from (k + 1) heads))) byte
+    ∙ ap (λ l. coded coding d (k, h) ∷ l) again
 
 -- each decoder has the links of its attribute
 links-each : (coding : Coding) (d : GluedMesh) (c : Reading) (k : ℕ) (heads : List Head)
@@ -124,7 +125,7 @@ data-there : (coding : Coding) (m : MeshParts) → attr_data_of (edgebreaker_byt
 unfolding edgebreaker_bytes header_bytes
 data-there coding m = refl
 
-index-there : (coding : Coding) (m : MeshParts) (place : ℕ) → index_layout (edgebreaker_bytes coding m) place ≡ None
+index-there : (coding : Coding) (m : MeshParts) (place : ℕ) → index_layout (profile_for coding m) (edgebreaker_bytes coding m) place ≡ None
 unfolding edgebreaker_bytes header_bytes
 index-there coding m place = refl
 
@@ -133,7 +134,7 @@ unfolding edgebreaker_bytes header_bytes connectivity_bytes opening_bytes
 traversal-there coding m = refl
 
 links-there : (coding : Coding) (m : MeshParts) → IsMesh m → SurfaceSpelled coding m
-    → links_layout (edgebreaker_bytes coding m) (heads_place coding m) ≡ map (linked coding (decoded m)) (range_with_len 0 (length m.heads))
+    → links_layout (profile_for coding m) (edgebreaker_bytes coding m) (heads_place coding m) ≡ map (linked coding (decoded m)) (range_with_len 0 (length m.heads))
 links-there coding m is spelled =
     let front = header_bytes 1 (Mesh m) ++ connectivity_of coding.valence m in
     let heads = decoder_heads_bytes coding (decoded m) in
@@ -142,25 +143,34 @@ links-there coding m is spelled =
     let at : place ≡ length front = omega (arith, length-append (header_bytes 1 (Mesh m)) (connectivity_of coding.valence m), header-length m) in
     let few = (heads_say m.heads is.points.heads_pass).few in
     let behind : Reading = record { place = place + length heads; rest = values } in
-    let read = heads-more (length m.heads - 1) position_id (omega (arith, few)) (record { place = place; rest = heads ++ values })
+    let p = profile_for coding m in
+    let read = heads-more p (length m.heads - 1) position_id (omega (arith, few)) (record { place = place; rest = heads ++ values })
     (map bare_decoder (decoders_for coding (decoded m)), behind) (spelled.heads.reads place values) in
-    ap (λ beside. links_of (heads_at beside (record { place = place; rest = drop place (edgebreaker_bytes coding m) }))) (data-there coding m)
-    ∙ ap (λ l. links_of (heads_at (Some position_id) (record { place = place; rest = drop place l }))) (stream-parts coding m)
-    ∙ ap (λ n. links_of (heads_at (Some position_id) (record { place = place; rest = drop n (front ++ (heads ++ values)) }))) at
-    ∙ ap (λ l. links_of (heads_at (Some position_id) (record { place = place; rest = l }))) (drop-append_seam front (heads ++ values))
+    ap (λ beside. links_of (heads_at p beside (record { place = place; rest = drop place (edgebreaker_bytes coding m) }))) (data-there coding m)
+    ∙ ap (λ l. links_of (heads_at p (Some position_id) (record { place = place; rest = drop place l }))) (stream-parts coding m)
+    ∙ ap (λ n. links_of (heads_at p (Some position_id) (record { place = place; rest = drop n (front ++ (heads ++ values)) }))) at
+    ∙ ap (λ l. links_of (heads_at p (Some position_id) (record { place = place; rest = l }))) (drop-append_seam front (heads ++ values))
     ∙ ap links_of read
     ∙ links-of coding m behind
 
-attributes-there : (coding : Coding) (m : MeshParts) → CanCodeSurface coding m
+attributes-ask : (coding : Coding) (m : MeshParts) → IsMesh m → CanCodeSurface coding m → All (Asks coding (decoded m)) (enumerate_from 0 m.heads)
+attributes-ask coding m is can =
+    let d = decoded m in
+    let D = decoded-keeps m is can.proper in
+    let coded : CanCode d.mesh.heads (coded_values coding d) = subst (λ (heads : List Head). CanCode heads (coded_values coding d)) (sym D.heads) can.values in
+    subst (λ (heads : List Head). All (Asks coding d) (enumerate_from 0 heads)) D.heads
+    (numbered-each (Asks coding d) d.mesh.heads (λ k h has. attribute-asks coding d D.mesh D.gluing coded k h has))
+
+attributes-there : (coding : Coding) (m : MeshParts) → IsMesh m → CanCodeSurface coding m
     → attr_layouts (edgebreaker_bytes coding m) (map (linked coding (decoded m)) (range_with_len 0 (length m.heads))) (info_written coding m).attrs
-    ≡ map (coded coding (decoded m)) (range_with_len 0 (length m.heads))
-attributes-there coding m can =
+    ≡ map (coded coding (decoded m)) (enumerate_from 0 m.heads)
+attributes-there coding m is can =
     let h = header_bytes 1 (Mesh m) in
     let s = connectivity_of coding.valence m in
     let heads = decoder_heads_bytes coding (decoded m) in
     let front = (h ++ s) ++ heads in
     layouts coding (decoded m) (edgebreaker_bytes coding m) front (values_place coding m) 0 m.heads
-    (omega (arith, header-length m, length-append h s, length-append (h ++ s) heads))
+    (omega (arith, header-length m, length-append h s, length-append (h ++ s) heads)) (attributes-ask coding m is can)
     (stream-parts coding m ∙ ap (λ values. (h ++ s) ++ (heads ++ values)) (values-of coding m) ∙ sym (append_assoc (h ++ s) heads (values_from coding (decoded m) 0 m.heads)))
 
 -- what a choice says of a method that isn't sequential
@@ -181,32 +191,34 @@ index-chosen : (m : MeshParts) (choice : Choice) → is_sequential (method_of (M
 index-chosen m choice eb = rw eb refl
 
 attributes-chosen : (m : MeshParts) (choice : Choice) → is_sequential (method_of (Mesh m) choice) ≡ false
-    → map (coded (coding_of (Mesh m) choice) (decoded m)) (range_with_len 0 (length m.heads)) ≡ (layout_chosen (Mesh m) choice).attributes
+    → map (coded (coding_of (Mesh m) choice) (decoded m)) (enumerate_from 0 m.heads) ≡ (layout_chosen (Mesh m) choice).attributes
 attributes-chosen m choice eb =
     let g = Mesh m in
-    otherwise (is_sequential (method_of g choice)) (map (λ _. attr_coded g choice 0 0) m.heads) (map (attr_on_surface g choice) (range_with_len 0 (length m.heads))) eb
+    otherwise (is_sequential (method_of g choice)) (map (λ (h, v). attr_in_order choice h v) (zip m.heads (values_of g (predict_chosen g choice))))
+    (map (λ (k, h). attr_on_surface g choice k h) (enumerate_from 0 m.heads)) eb
 
 -- a stream that is written by Edgebreaker is coded as chosen
 pub layout-on-surface : (m : MeshParts) (choice : Choice) → is_sequential (method_of (Mesh m) choice) ≡ false → IsMesh m
     → CanCodeSurface (coding_of (Mesh m) choice) m → SurfaceSpelled (coding_of (Mesh m) choice) m
-    → stream (edgebreaker_bytes (coding_of (Mesh m) choice) m) ≡ Ok (meaning_written (coding_of (Mesh m) choice) m)
-    → layout_of (edgebreaker_bytes (coding_of (Mesh m) choice) m) ≡ Ok (layout_chosen (Mesh m) choice)
+    → stream_in (profile_for (coding_of (Mesh m) choice) m) (edgebreaker_bytes (coding_of (Mesh m) choice) m) ≡ Ok (meaning_written (coding_of (Mesh m) choice) m)
+    → IsLaidOut (Mesh m) choice (edgebreaker_bytes (coding_of (Mesh m) choice) m)
 layout-on-surface m choice eb is can spelled means =
     let coding = coding_of (Mesh m) choice in
+    let p = profile_for coding m in
     let bytes = edgebreaker_bytes coding m in
     let info = info_written coding m in
     let chosen = layout_chosen (Mesh m) choice in
     let place = heads_place coding m in
-    let info_attrs = attr_layouts bytes (links_layout bytes place) info.attrs in
+    let info_attrs = attr_layouts bytes (links_layout p bytes place) info.attrs in
     let made : ℕ → Option ℕ → Option ℕ → List AttrLayout → Layout = λ m i t a. record { method = m; index = i; traversal = t; attributes = a } in
     let x : slice_index bytes 8 ≡ chosen.method = method-there coding m ∙ method-chosen (method_of (Mesh m) choice) eb in
-    let i : index_layout bytes surface_place ≡ chosen.index = index-there coding m surface_place ∙ index-chosen m choice eb in
+    let i : index_layout p bytes surface_place ≡ chosen.index = index-there coding m surface_place ∙ index-chosen m choice eb in
     let t : traversal_layout bytes surface_place ≡ chosen.traversal = traversal-there coding m ∙ traversal-chosen (method_of (Mesh m) choice) eb in
     let a : info_attrs ≡ chosen.attributes =
-    ap (λ links. attr_layouts bytes links info.attrs) (links-there coding m is spelled) ∙ attributes-there coding m can ∙ attributes-chosen m choice eb in
-    ap (λ r. r >>= λ d. Ok (layout_by bytes d.info)) means
+    ap (λ links. attr_layouts bytes links info.attrs) (links-there coding m is spelled) ∙ attributes-there coding m is can ∙ attributes-chosen m choice eb in
+    ap (λ r. r >>= λ d. Ok (layout_by p bytes d.info)) means
     ∙ ap Ok (
-    ap (λ x. made x (index_layout bytes surface_place) (traversal_layout bytes surface_place) info_attrs) x
+    ap (λ x. made x (index_layout p bytes surface_place) (traversal_layout bytes surface_place) info_attrs) x
     ∙ ap (λ i. made chosen.method i (traversal_layout bytes surface_place) info_attrs) i
     ∙ ap (λ t. made chosen.method chosen.index t info_attrs) t
     ∙ ap (λ a. made chosen.method chosen.index chosen.traversal a) a)

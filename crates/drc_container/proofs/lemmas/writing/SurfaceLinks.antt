@@ -2,15 +2,19 @@
 -- attribute data of its own number.
 use Rattle.std.proofs.Common.{◌≡◌, ℕ, zero, suc, ◌+◌, ◌-◌, ◌<◌, ◌≤◌, Bool, true, false, ◌&&◌, List, [], ◌∷◌, ◌++◌, length, map, refl, arith}
 use Rattle.std.specs.Prelude.{◌||◌, ◌==◌, not, nat_lt, IsTrue}
-use Rattle.std.specs.List.{enumerate_from, list_any}
+use Rattle.std.specs.List.{All, enumerate_from, list_any}
+use Rattle.std.proofs.lemmas.List.Elements.{All-nil, All-cons, All-head, All-tail}
 use Rattle.std.proofs.lemmas.Bool.{lt-ltb, ne_eqb}
 use Rattle.attr_heads.specs.declared.heads.Head.{Head}
 use Rattle.mesh_model.specs.Parts.{IsMesh}
 use Rattle.attr_heads.proofs.Passing.{heads_say}
 use Rattle.attr_section.specs.declared.links.Link.{Link}
-use Rattle.attr_section.specs.Heads.{position_id, is_id, is_known_id, is_used_id, link_of, LinkPasses, LinksPass}
+use Rattle.attr_section.specs.Heads.{position_id, is_id, is_known_id, is_used_id, link_of, LinkPasses, LinksPass, HasCoding, HaveCodings}
+use Rattle.attr_section.specs.declared.decoder_heads.DecoderHead.{DecoderHead}
 use Rattle.drc_container.specs.declared.choice.codings.Coding.{Coding}
+use Rattle.drc_container.specs.choice.Predicts.{needed_number}
 use Rattle.drc_container.specs.writing.WrittenOnSurface.{GluedMesh, is_cornered, data_id_of, decoder_for, decoders_for}
+use Rattle.drc_container.proofs.lemmas.writing.Needed.{codings-each}
 
 -- no link before has the id of this attribute or of a later one
 abbrev AreFree : ℕ → ℕ → List Link → Type 0
@@ -86,3 +90,18 @@ unfolding decoders_for
 are-linked coding d is =
     let say = heads_say d.mesh.heads is.points.heads_pass in
     links-pass coding d (length d.mesh.heads - 1) 0 [] d.mesh.heads (omega (arith, say.few)) (omega (arith, say.some)) (λ j low few. refl)
+
+-- ---- their codings
+
+codings-from : (coding : Coding) (d : GluedMesh) (n k : ℕ) (heads : List Head) → All (HasCoding n) heads → HaveCodings n (map (λ (j, h). decoder_for coding d j h) (enumerate_from k heads))
+codings-from coding d n k [] has = All-nil (λ (x : DecoderHead). All (HasCoding n) x.heads)
+codings-from coding d n k (h ∷ heads) has =
+    let f : ℕ × Head → DecoderHead = λ (j, x). decoder_for coding d j x in
+    All-cons (λ (x : DecoderHead). All (HasCoding n) x.heads) (decoder_for coding d k h) (map f (enumerate_from (k + 1) heads))
+    (All-cons (HasCoding n) h [] (All-head (HasCoding n) h heads has) (All-nil (HasCoding n)))
+    (codings-from coding d n (k + 1) heads (All-tail (HasCoding n) h heads has))
+
+-- the first profile that has all that is written has them
+pub codings-for : (coding : Coding) (d : GluedMesh) → HaveCodings (needed_number coding.predict d.mesh.heads) (decoders_for coding d)
+unfolding decoders_for
+codings-for coding d = codings-from coding d (needed_number coding.predict d.mesh.heads) 0 d.mesh.heads (codings-each coding.predict d.mesh.heads)

@@ -18,9 +18,9 @@ use Rattle.mesh_model.proofs.Pigeonholes.{few-distinct}
 use Rattle.corner_table.specs.Sides.{Side, side, side_at, number, place_of, place_number}
 use Rattle.corner_table.proofs.Numbers.{number-side_at, face-lt}
 use Rattle.drc_container.specs.declared.choice.codings.Coding.{Coding}
-use Rattle.drc_container.specs.writing.WrittenOnSurface.{traced, GluedMesh, decoded}
+use Rattle.drc_container.specs.writing.WrittenOnSurface.{traced, GluedMesh, decoded, table_by}
 use Rattle.drc_container.specs.writing.Encoded.{CanCodeSurface}
-use Rattle.drc_container.proofs.lemmas.writing.SurfaceWritten.{table_written, tables_written, mesh_written}
+use Rattle.drc_container.proofs.lemmas.writing.SurfaceWritten.{tables_written, mesh_written}
 use Rattle.drc_container.proofs.lemmas.surface.Decoded.{point_of, row_of, point-within, decoded-keeps}
 use Rattle.drc_container.proofs.lemmas.surface.Pieces.{part, width-more, row-fits}
 use Rattle.drc_container.proofs.lemmas.surface.Classes.{corner-entry}
@@ -29,7 +29,7 @@ use Rattle.drc_container.proofs.lemmas.surface.Classes.{corner-entry}
 
 -- the tables of attributes from number i on
 abbrev tables_from : Coding → GluedMesh → ℕ → List Head → List AttrTable
-tables_from coding d i heads = map (λ (k, _). table_written coding d k) (enumerate_from i heads)
+tables_from coding d i heads = map (λ (k, _). table_by coding d k) (enumerate_from i heads)
 
 -- a part of a row and what is behind it
 part-rest : (all : List Head) (i : ℕ) (h : Head) (row : List ℤ) → i < length all
@@ -45,7 +45,7 @@ part-rest all i h row has =
 -- each corner's entry is the part of a row
 abbrev HasParts : Coding → GluedMesh → List Head → ℕ → List ℤ → Type 0
 HasParts coding d all n row =
-    (k : ℕ) (h : Head) → k < length all → h ≡ get_or all k h → column_entry n (h, table_written coding d k) ≡ part all k row
+    (k : ℕ) (h : Head) → k < length all → h ≡ get_or all k h → column_entry n (h, table_by coding d k) ≡ part all k row
 
 -- the entries of the attributes from number i on are the row from there on
 row-from : (coding : Coding) (d : GluedMesh) (all : List Head) (n : ℕ) (row : List ℤ) → length row ≡ width_of all → HasParts coding d all n row
@@ -73,7 +73,7 @@ corner-row coding m is can c within =
     let inside : c.face < length d.mesh.faces = omega (arith, D.faces) in
     let row = row_of d.mesh c in
     let parts : HasParts coding d d.mesh.heads (number c) row = λ k h has same.
-    ap (λ (x : Head). column_entry (number c) (x, table_written coding d k)) same ∙ corner-entry coding d k h has D.mesh D.gluing D.fits c inside in
+    ap (λ (x : Head). column_entry (number c) (x, table_by coding d k)) same ∙ corner-entry coding d k h has D.mesh D.gluing D.fits c inside in
     subst (λ (heads : List Head). corner_row (zip heads (tables_from coding d 0 heads)) (number c) ≡ row) D.heads
     (row-from coding d d.mesh.heads (number c) row (row-fits d.mesh D.mesh c inside).0 parts d.mesh.heads 0 refl)
 

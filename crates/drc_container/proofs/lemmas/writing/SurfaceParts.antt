@@ -1,16 +1,17 @@
 -- The decoders and the values of a mesh's attributes by Edgebreaker are what the calls that write them ask for.
-use Rattle.std.proofs.Common.{◌≡◌, ℕ, zero, suc, ◌+◌, ◌-◌, ◌*◌, ◌<◌, ◌≤◌, ◌^◌, Bool, ℤ, List, [], ◌∷◌, ◌++◌, length, map, take, drop, get_or, Some, refl, sym, ap, ◌∙◌, subst, arith, drop-cons, append-nil, Vec, Global}
+use Rattle.std.proofs.Common.{◌≡◌, ℕ, zero, suc, ◌+◌, ◌-◌, ◌*◌, ◌<◌, ◌≤◌, ◌^◌, Bool, ℤ, pos, List, [], ◌∷◌, ◌++◌, length, map, take, drop, get_or, Some, true, refl, sym, ap, ◌∙◌, subst, arith, drop-cons, append-nil, Vec, Global}
 use Rattle.std.specs.Prelude.{not, flat_map}
-use Rattle.std.specs.List.{All, range_with_len, enumerate_from}
+use Rattle.std.specs.List.{All, range_with_len, enumerate_from, zip}
 use Rattle.std.proofs.lemmas.Grind.{flat_map-append}
 use Rattle.std.proofs.lemmas.List.{length-map, get_or-map, map-append, take_more}
-use Rattle.std.proofs.lemmas.List.Elements.{All-nil, All-cons, All-get_or}
+use Rattle.std.proofs.lemmas.List.Elements.{All-nil, All-cons, All-get_or, All-from_get_or}
 use Rattle.std.proofs.lemmas.List.FromFn.{length-map-range_with_len, get_or-map-range_with_len, map-range_with_len_more, sum_by-map-range_with_len_more, length-enumerate_from, get_or-enumerate_from}
 use Rattle.std.proofs.lemmas.List.Filters.{length-filter_both}
 use Rattle.std.proofs.lemmas.List.Sums.{get_or-le-sum_by, sum_by-cons}
 use Rattle.std.proofs.Math.Nat.{mul-mod_left, mul-le-mul_left}
 use Rattle.drc_base.specs.declared.limits.TheConstants.{MAX_ATTRIBUTES}
 use Rattle.attr_heads.specs.declared.heads.Head.{Head}
+use Rattle.attr_heads.specs.declared.octahedra.TheConstants.{OCTAHEDRAL_INTEGERS}
 use Rattle.attr_heads.specs.Head.{width_of}
 use Rattle.mesh_model.specs.Parts.{MeshParts, corner, IsMesh}
 use Rattle.attr_heads.proofs.Passing.{HeadSays, heads_say}
@@ -19,30 +20,33 @@ use Rattle.corner_table.specs.Sides.{Side, place_of, place_number, side_at, Glui
 use Rattle.corner_table.specs.Fans.{corners_of}
 use Rattle.corner_table.specs.Pairs.{has_bit, bit_sides}
 use Rattle.corner_table.specs.Table.{side_of, gluing_of}
+use Rattle.corner_table.proofs.Numbers.{number-side_at, face-lt}
 use Rattle.corner_table.proofs.PairLaws.{length-corners_of}
+use Rattle.walk_order.specs.OfSurface.{entries_of}
 use Rattle.seams.specs.Values.{piece, is_seam}
 use Rattle.seams.proofs.Values.{width_part}
 use Rattle.predict.specs.Wrap.{CanWrap}
 use Rattle.corner_table.specs.Ordered.{Ordered}
-use Rattle.predict.specs.declared.schemes.Prediction.{Prediction}
-use Rattle.predict.specs.Schemes.{code_of}
 use Rattle.attr_section.specs.declared.decoder_heads.DecoderHead.{DecoderHead}
 use Rattle.attr_section.specs.declared.values.Values.{Values}
 use Rattle.attr_heads.specs.HeadItems.{HeadPasses}
-use Rattle.attr_section.specs.Heads.{attributes_of, DecoderPasses, DecodersPass}
-use Rattle.attr_section.specs.Values.{values_in}
-use Rattle.attr_section.specs.Written.{range_of, HasQuant, CanPredict, ValuesPass, DecoderValuesPass, HaveEntries}
+use Rattle.attr_section.specs.Heads.{attributes_of, HasSquareType, DecoderPasses, DecodersPass}
+use Rattle.attr_section.specs.Attributes.{values_in}
+use Rattle.attr_section.specs.WrittenParts.{range_of}
+use Rattle.attr_section.specs.Written.{HasEnd, MayHavePoints, CanAsk, ValuesPass, DecoderValuesPass, HaveEntries}
 use Rattle.drc_container.specs.declared.choice.codings.Coding.{Coding}
 use Rattle.drc_container.specs.declared.surface.ordered_surface.OrderedSurface.{OrderedSurface}
 use Rattle.drc_container.specs.declared.surface.attribute_surfaces.AttributeSurfaces.{AttributeSurfaces}
-use Rattle.drc_container.specs.choice.CanCode.{CanCode}
+use Rattle.drc_container.specs.choice.CanCode.{wraps, CanCode}
+use Rattle.drc_container.specs.choice.Predicts.{asked}
 use Rattle.drc_container.specs.reading.OnSurface.{order_by, ordered_by}
-use Rattle.drc_container.specs.writing.WrittenOnSurface.{GluedMesh, seam_bits_of, cut_of, is_by_degree, surface_order, coded_by, coded_values, decoder_for, decoders_for, seam_lists}
+use Rattle.drc_container.specs.writing.WrittenOnSurface.{GluedMesh, seam_bits_of, cut_of, is_by_degree, surface_order, asked_at, coded_by, coded_values, decoder_for, decoders_for, seam_lists}
 use Rattle.drc_container.specs.surface.AttributeSurfaces.{glued_on, order_in, order_at, AreAttributeSurfaces}
-use Rattle.drc_container.proofs.lemmas.writing.Attributed.{head_passes, head_quant}
+use Rattle.drc_container.proofs.lemmas.writing.Asking.{head_square, head_end, can-ask}
+use Rattle.drc_container.proofs.lemmas.writing.Attributed.{head_passes}
 use Rattle.drc_container.proofs.lemmas.surface.Pieces.{width-more, pieces-typed, pieces-long}
 use Rattle.drc_container.proofs.lemmas.writing.SurfaceColumns.{order_for, walk-on, walk-corners, walk-entries, cut-gluing}
-use Rattle.drc_container.proofs.lemmas.surface.Walks.{entries-each, order-some}
+use Rattle.drc_container.proofs.lemmas.surface.Walks.{entries-each, has_entry, order-some}
 use Rattle.drc_container.proofs.lemmas.surface.AttributeSurfaces.{walk-at}
 
 -- ---- attribute after attribute
@@ -86,27 +90,70 @@ values-each coding d = length-map-range_with_len (coded_by coding d) 0 (length d
 some-values : (n comps : ℕ) → 0 < n → 1 ≤ comps → 0 < n * comps
 some-values n comps some one = let more : n * 1 ≤ n * comps = mul-le-mul_left n one in omega (arith, more, some)
 
--- values that lie near enough may be predicted
-may-predict : (coding : Coding) (d : GluedMesh) (k comps : ℕ) → CanCode coding.predict (coded_values coding d) → k < length d.mesh.heads
-    → length (coded_by coding d k).values ≡ length (surface_order coding d k).corners * comps
-    → (q : Prediction) × (code_of coding.predict ≡ code_of q) × CanPredict (Some (surface_order coding d k)) comps (coded_by coding d k).values q
-may-predict coding d k comps can has long = (
-  coding.predict,
-  refl,
-  record {
-    wrap = λ corrects. wraps (can.near corrects);
-    stand = record { stand = λ needs. long };
-  },
-)
-  where
-    wraps : All (λ v. CanWrap (range_of v.values)) (coded_values coding d) → CanWrap (range_of (coded_by coding d k).values)
-    wraps all =
-        let v = coded_by coding d k in
-        let P : Values → Type 0 = λ (x : Values). CanWrap (range_of x.values) in
-        subst P (values-at coding d k v has) (All-get_or P (coded_values coding d) k v (omega (arith, has, values-each coding d)) all)
+-- what is asked of attribute k
+pub asked-of : (coding : Coding) (d : GluedMesh) (k : ℕ) (e : Head) → k < length d.mesh.heads → asked_at coding d k ≡ asked coding.predict (get_or d.mesh.heads k e)
+asked-of coding d k e has = get_or-map (asked coding.predict) d.mesh.heads k e (pos 0) has
+
+-- each corner has an entry of the walk
+entry-near : (coding : Coding) (d : GluedMesh) → IsGluing (length d.mesh.faces) d.pairs → (k : ℕ)
+    → All (λ (e : ℕ). e < length (surface_order coding d k).corners) (surface_order coding d k).entries
+entry-near coding d G k =
+    let faces = length d.mesh.faces in
+    let cut = cut_of d k in
+    let degree = is_by_degree coding d k in
+    let order = order_by degree faces cut in
+    rw (walk-corners coding d k, walk-entries coding d k)
+    (All-from_get_or (λ (e : ℕ). e < length order) (entries_of faces cut order) 0 (λ i below.
+    let small : i < 3 * faces = omega (arith, below, entries-each faces cut order) in
+    subst (λ (j : ℕ). get_or (entries_of faces cut order) j 0 < length order) (number-side_at i)
+    (has_entry degree faces cut (cut-gluing d k G) (side_at i) (face-lt i faces small)).within))
+
+-- octahedral values stand on it
+points-stand : (coding : Coding) (d : GluedMesh) → IsGluing (length d.mesh.faces) d.pairs → (k comps : ℕ)
+    → length (coded_by coding d k).values ≡ length (surface_order coding d k).corners * comps → comps ≡ OCTAHEDRAL_INTEGERS
+    → MayHavePoints (Some (surface_order coding d k)) (length (coded_by coding d k).values)
+points-stand coding d G k comps long two =
+    (long ∙ ap (λ (c : ℕ). length (surface_order coding d k).corners * c) two, entry-near coding d G k)
+
+-- heads beside the values of their attributes
+zip-at : (heads : List Head) (values : List Values) (k : ℕ) (h : Head) (v : Values) → k < length heads → k < length values
+    → get_or (zip heads values) k (h, v) ≡ (get_or heads k h, get_or values k v)
+zip-at [] values k h v has within = absurd (omega (arith, has))
+zip-at (x ∷ heads) [] k h v has within = absurd (omega (arith, within))
+zip-at (x ∷ heads) (y ∷ values) zero h v has within = refl
+zip-at (x ∷ heads) (y ∷ values) (suc k) h v has within = zip-at heads values k h v (omega (arith, has)) (omega (arith, within))
+
+zip-long : (heads : List Head) (values : List Values) → length values ≡ length heads → length (zip heads values) ≡ length heads
+zip-long [] values same = refl
+zip-long (x ∷ heads) [] same = absurd (omega (arith, same))
+zip-long (x ∷ heads) (y ∷ values) same = ap (λ (n : ℕ). suc n) (zip-long heads values (omega (arith, same)))
+
+-- the values of attribute k lie near enough, where they wrap
+near-at : (coding : Coding) (d : GluedMesh) → CanCode d.mesh.heads (coded_values coding d) → (k : ℕ) (e : Head) → k < length d.mesh.heads
+    → wraps (get_or d.mesh.heads k e) (coded_by coding d k) ≡ true → CanWrap (range_of (coded_by coding d k).values)
+near-at coding d can k e has =
+    let values = coded_values coding d in
+    let v = coded_by coding d k in
+    let Near : Head × Values → Type 0 = λ (x, y). wraps x y ≡ true → CanWrap (range_of y.values) in
+    let within : k < length values = omega (arith, has, values-each coding d) in
+    let there : k < length (zip d.mesh.heads values) = omega (arith, has, zip-long d.mesh.heads values (values-each coding d)) in
+    subst Near (zip-at d.mesh.heads values k e v has within ∙ ap (λ (y : Values). (get_or d.mesh.heads k e, y)) (values-at coding d k v has))
+    (All-get_or Near (zip d.mesh.heads values) k (e, v) there can.near)
+
+-- they may have what is asked of them
+pub attribute-asks : (coding : Coding) (d : GluedMesh) → IsMesh d.mesh → IsGluing (length d.mesh.faces) d.pairs → CanCode d.mesh.heads (coded_values coding d)
+    → (k : ℕ) (e : Head) → k < length d.mesh.heads
+    → CanAsk (Some (surface_order coding d k)) (get_or d.mesh.heads k e).octa (get_or d.mesh.heads k e).comps (coded_by coding d k).predict (coded_by coding d k).values
+attribute-asks coding d is G can k e has =
+    let h = get_or d.mesh.heads k e in
+    let v = coded_by coding d k in
+    let says : HeadSays h = All-get_or HeadSays d.mesh.heads k e has (heads_say d.mesh.heads is.points.heads_pass).each in
+    let long : length v.values ≡ length (surface_order coding d k).corners * h.comps = values-long coding d is k e has in
+    can-ask coding.predict h (Some (surface_order coding d k)) v says (asked-of coding d k e has) (near-at coding d can k e has)
+    (record { stand = λ needs. long }) (points-stand coding d G k h.comps long)
 
 -- the values of an attribute pass
-values-pass : (coding : Coding) (d : GluedMesh) → IsMesh d.mesh → IsGluing (length d.mesh.faces) d.pairs → 0 < length d.mesh.faces → CanCode coding.predict (coded_values coding d)
+values-pass : (coding : Coding) (d : GluedMesh) → IsMesh d.mesh → IsGluing (length d.mesh.faces) d.pairs → 0 < length d.mesh.faces → CanCode d.mesh.heads (coded_values coding d)
     → (k : ℕ) (e : Head) → k < length d.mesh.heads → ValuesPass (Some (surface_order coding d k)) (get_or d.mesh.heads k e) (coded_by coding d k)
 values-pass coding d is G faces can k e has =
     let h = get_or d.mesh.heads k e in
@@ -125,12 +172,12 @@ values-pass coding d is G faces can k e has =
       some = omega (arith, long, some);
       few = omega (arith, here, can.few);
       whole = rw long (mul-mod_left n h.comps);
-      typed = pieces-typed d.mesh is k e has (surface_order coding d k).corners (walk-on coding d k);
-      predicted = may-predict coding d k h.comps can has long;
+      bounded = pieces-typed d.mesh is k e has (surface_order coding d k).corners (walk-on coding d k);
+      asked = attribute-asks coding d is G can k e has;
     }
 
 -- and so do those of its decoder
-pub decoder-values-pass : (coding : Coding) (d : GluedMesh) → IsMesh d.mesh → IsGluing (length d.mesh.faces) d.pairs → 0 < length d.mesh.faces → CanCode coding.predict (coded_values coding d)
+pub decoder-values-pass : (coding : Coding) (d : GluedMesh) → IsMesh d.mesh → IsGluing (length d.mesh.faces) d.pairs → 0 < length d.mesh.faces → CanCode d.mesh.heads (coded_values coding d)
     → (k : ℕ) (e : Head) → k < length d.mesh.heads
     → DecoderValuesPass (Some (surface_order coding d k)) (get_or d.mesh.heads k e ∷ []) (coded_by coding d k ∷ [])
 decoder-values-pass coding d is G faces can k e has =
@@ -140,7 +187,7 @@ decoder-values-pass coding d is G faces can k e has =
     let says : HeadSays h = All-get_or HeadSays d.mesh.heads k e has (heads_say d.mesh.heads is.points.heads_pass).each in
     record {
       each_head = refl;
-      quants = All-cons (λ (x : Head). HasQuant x x.quant) h [] (head_quant h says) (All-nil (λ (x : Head). HasQuant x x.quant));
+      ends = All-cons (λ (x : Head). HasEnd x x.octa) h [] (head_end h says) (All-nil (λ (x : Head). HasEnd x x.octa));
       each = All-cons (λ (x, y). ValuesPass w x y) (h, v) [] (values-pass coding d is G faces can k e has) (All-nil (λ (x, y). ValuesPass w x y));
     }
 
@@ -191,7 +238,11 @@ each-passes coding d k [] say = All-nil DecoderPasses
 each-passes coding d k (h ∷ heads) say =
     let f : ℕ × Head → DecoderHead = λ (j, x). decoder_for coding d j x in
     All-cons DecoderPasses (decoder_for coding d k h) (map f (enumerate_from (k + 1) heads))
-    (record { some = omega arith; heads = All-cons HeadPasses h [] (head_passes h (say 0 h (omega arith))) (All-nil HeadPasses) })
+    (record {
+      some = omega arith;
+      heads = All-cons HeadPasses h [] (head_passes h (say 0 h (omega arith))) (All-nil HeadPasses);
+      squares = All-cons (λ (x : Head). HasSquareType x x.octa) h [] (head_square h (say 0 h (omega arith))) (All-nil (λ (x : Head). HasSquareType x x.octa));
+    })
     (each-passes coding d (k + 1) heads (λ i e below. say (suc i) e (omega arith)))
 
 pub decoders-pass : (coding : Coding) (d : GluedMesh) → IsMesh d.mesh → DecodersPass (decoders_for coding d)
@@ -292,12 +343,14 @@ kept-corners coding s k t corners are has is same =
     (subst (λ (n : ℕ). All (λ (c : ℕ). c < 3 * n) t.order.corner_of_entry) (kept-faces coding s k t are has is) t.over.corners)
 
 -- the values at them are those of the attribute
-pub kept-values : (coding : Coding) (s : AttributeSurfaces) (k : ℕ) (t : OrderedSurface) (corners : List ℕ) (column : List ℤ) → AreAttributeSurfaces coding.degree s → k < length s.mesh.heads
+pub kept-values : (coding : Coding) (s : AttributeSurfaces) (k : ℕ) (t : OrderedSurface) (corners : List ℕ) (column : List ℤ) (code : ℤ) → AreAttributeSurfaces coding.degree s → k < length s.mesh.heads
     → order_in t ≡ order_at s k → corners ≡ t.order.corner_of_entry → column ≡ flat_map (piece s.mesh k) (map side_at corners)
-    → record { values = column; predict = code_of coding.predict; at = 0 } ≡ coded_by coding (glued_on s) k
-kept-values coding s k t corners column are has is same at_corners =
-    let make : List ℤ → Values = λ (l : List ℤ). record { values = l; predict = code_of coding.predict; at = 0 } in
-    ap make (
+    → code ≡ asked_at coding (glued_on s) k → record { values = column; predict = code; at = 0 } ≡ coded_by coding (glued_on s) k
+kept-values coding s k t corners column code are has is same at_corners is_code =
+    let make : List ℤ → Values = λ (l : List ℤ). record { values = l; predict = asked_at coding (glued_on s) k; at = 0 } in
+    let with_code : ℤ → Values = λ (x : ℤ). record { values = column; predict = x; at = 0 } in
+    ap with_code is_code
+    ∙ ap make (
     at_corners
     ∙ ap (λ (l : List ℕ). flat_map (piece s.mesh k) (map side_at l)) same
     ∙ ap (λ (w : Ordered). flat_map (piece s.mesh k) w.corners) (kept-walk coding s k t are has is))

@@ -1,5 +1,5 @@
 -- A stream that is written by Edgebreaker is read.
-use Rattle.drc_base.specs.Profile.{profile}
+use Rattle.drc_base.specs.Profile.{Profile, profile_numbered}
 use Rattle.std.proofs.Common.{◌≡◌, ℕ, ◌+◌, ◌-◌, List, [], ◌∷◌, ◌++◌, map, length, Some, Result, Ok, refl, sym, ◌∙◌, ap, arith, append-nil, append_assoc, length-append}
 use Rattle.std.specs.Str.{bytes_eq}
 use Rattle.std.specs.List.{enumerate_from}
@@ -21,11 +21,13 @@ use Rattle.drc_container.specs.declared.headers.Form.{Form}
 use Rattle.drc_container.specs.declared.headers.Form.TheVariants as form
 use Rattle.drc_container.specs.Header.{magic, magic_at, minor_of, form_said, header_at}
 use Rattle.drc_container.specs.reading.OnSurface.{SurfaceAttributes, at_end, assembled_in, assembled_at}
-use Rattle.drc_container.specs.reading.Stream.{stream, stream_in, body_at, edgebreaker_at, surface_behind}
+use Rattle.drc_container.specs.reading.Stream.{stream_in, body_at, edgebreaker_at, surface_behind}
 use Rattle.drc_container.specs.reading.Meaning.{Meaning, edgebreaker_info}
 use Rattle.drc_container.specs.writing.Written.{geometry_type, header_bytes}
 use Rattle.drc_container.specs.writing.WrittenOnSurface.{decoded, connectivity_of, decoder_heads_bytes, values_bytes_on, edgebreaker_bytes}
 use Rattle.drc_container.specs.writing.Encoded.{CanCodeSurface, SurfaceSpelled}
+use Rattle.drc_container.specs.choice.Predicts.{needed_number}
+use Rattle.drc_container.proofs.lemmas.reading.Limited.{connectivity_alike}
 use Rattle.drc_container.proofs.lemmas.reading.ProfileCounts.{assembled-all}
 use Rattle.drc_container.proofs.lemmas.writing.SurfaceWritten.{surface_place, heads_place, values_place, tables_written, mesh_written, info_before, meaning_before, meaning_written}
 use Rattle.drc_container.proofs.lemmas.writing.SurfaceConnectivity.{connectivity_written, connectivity-read}
@@ -75,6 +77,10 @@ heads-numbered : (j : ℕ) (heads : List Head) → map (λ (k, h). h) (enumerate
 heads-numbered j [] = refl
 heads-numbered j (h ∷ heads) = ap (λ (l : List Head). h ∷ l) (heads-numbered (j + 1) heads)
 
+-- the first profile that has all that is written
+abbrev pub profile_for : Coding → MeshParts → Profile
+profile_for coding m = profile_numbered (needed_number coding.predict m.heads)
+
 -- a mesh with its surface, of which so many bytes of connectivity, these attributes, this end and these bytes behind it are known
 abbrev info_to : Coding → MeshParts → List ℕ → ℕ → ℕ → Result Meaning Fault
 info_to coding m more long end = Ok (record {
@@ -86,7 +92,7 @@ info_to coding m more long end = Ok (record {
 -- what is behind the connectivity
 surface-read : (coding : Coding) (m : MeshParts) → IsMesh m → CanCodeSurface coding m → (parts : SurfaceSpelled coding m)
     → assembled m.heads (tables_written coding m) (length m.faces) ≡ Ok (mesh_written coding m) → (more : List ℕ)
-    → surface_behind profile surface_place (connectivity_written coding m parts.connectivity.blocks)
+    → surface_behind (profile_for coding m) surface_place (connectivity_written coding m parts.connectivity.blocks)
     (record { place = heads_place coding m; rest = decoder_heads_bytes coding (decoded m) ++ (values_bytes_on coding (decoded m) ++ more) })
     ≡ Ok (meaning_before coding m more)
 unfolding surface_behind
@@ -97,7 +103,7 @@ surface-read coding m is can parts made more =
     let a : SurfaceAttributes = attributes_written coding (decoded m) (values_place coding m) (enumerate_from 0 m.heads) in
     let end : ℕ = values_place coding m + length values in
     let last : Reading = record { place = end; rest = more } in
-    let next : SurfaceAttributes × Reading → Result Meaning Fault = λ a. assembled_at profile a.1.place s.faces a.0 >>= λ mesh. Ok (record {
+    let next : SurfaceAttributes × Reading → Result Meaning Fault = λ a. assembled_at (profile_for coding m) a.1.place s.faces a.0 >>= λ mesh. Ok (record {
       geometry = Mesh mesh;
       surface = Some (record { faces = s.faces; glued = s.glued });
       info = edgebreaker_info surface_place to s a.0.info a.1;
@@ -109,15 +115,15 @@ surface-read coding m is can parts made more =
     }) in
     let long : to - surface_place ≡ length (connectivity_of coding.valence m) = omega arith in
     ap (λ y. y >>= next) (attributes-read coding m is can parts to more)
-    ∙ ap (λ (l : List Head). at_end end (assembled_in profile l (tables_written coding m) (length m.faces)) >>= of_mesh) (heads-numbered 0 m.heads)
-    ∙ ap (λ (r : Result MeshParts Fault). at_end end r >>= of_mesh) (assembled-all 2 m.heads (tables_written coding m) (length m.faces) ∙ made)
+    ∙ ap (λ (l : List Head). at_end end (assembled_in (profile_for coding m) l (tables_written coding m) (length m.faces)) >>= of_mesh) (heads-numbered 0 m.heads)
+    ∙ ap (λ (r : Result MeshParts Fault). at_end end r >>= of_mesh) (assembled-all (needed_number coding.predict m.heads) m.heads (tables_written coding m) (length m.faces) ∙ made)
     ∙ ap (λ (n : ℕ). info_to coding m more n end) long
     ∙ ap (λ (n : ℕ). info_to coding m more (length (connectivity_of coding.valence m)) n) (end-is coding m)
 
 -- a stream that is written by Edgebreaker is read, where its parts are, whatever follows it
 pub stream-on-surface_before : (coding : Coding) (m : MeshParts) → IsMesh m → CanCodeSurface coding m → SurfaceSpelled coding m
     → assembled m.heads (tables_written coding m) (length m.faces) ≡ Ok (mesh_written coding m)
-    → (more : List ℕ) → stream (edgebreaker_bytes coding m ++ more) ≡ Ok (meaning_before coding m more)
+    → (more : List ℕ) → stream_in (profile_for coding m) (edgebreaker_bytes coding m ++ more) ≡ Ok (meaning_before coding m more)
 unfolding stream_in edgebreaker_at edgebreaker_bytes
 stream-on-surface_before coding m is can parts made more =
     let header : List ℕ = header_bytes 1 (Mesh m) in
@@ -126,18 +132,20 @@ stream-on-surface_before coding m is can parts made more =
     let values : List ℕ = values_bytes_on coding (decoded m) in
     let behind : List ℕ = heads ++ (values ++ more) in
     let start : 0 + length (header_bytes 1 (Mesh m)) ≡ surface_place = omega (arith, length-header m) in
-    ap (λ (bytes : List ℕ). stream bytes)
+    let p = profile_for coding m in
+    ap (λ (bytes : List ℕ). stream_in p bytes)
     (append_assoc header (surface ++ (heads ++ values)) more
     ∙ ap (λ (b : List ℕ). header ++ b) (append_assoc surface (heads ++ values) more ∙ ap (λ (b : List ℕ). surface ++ b) (append_assoc heads values more)))
-    ∙ ap (λ x. x >>= λ header. body_at profile header.0 header.1) ((form-spelled 1 (Mesh m) form.EdgebreakerMesh (said-mesh m)).reads 0 (surface ++ behind))
-    ∙ ap (λ (n : ℕ). edgebreaker_at profile (record { place = n; rest = surface ++ behind })) start
-    ∙ ap (λ x. x >>= λ connectivity. surface_behind profile surface_place connectivity.0 connectivity.1)
-    ((connectivity-read coding m is can.proper parts.connectivity).reads surface_place behind)
+    ∙ ap (λ x. x >>= λ header. body_at p header.0 header.1) ((form-spelled 1 (Mesh m) form.EdgebreakerMesh (said-mesh m)).reads 0 (surface ++ behind))
+    ∙ ap (λ (n : ℕ). edgebreaker_at p (record { place = n; rest = surface ++ behind })) start
+    ∙ ap (λ x. x >>= λ connectivity. surface_behind p surface_place connectivity.0 connectivity.1)
+    (connectivity_alike (needed_number coding.predict m.heads) (record { place = surface_place; rest = surface ++ behind })
+    ∙ (connectivity-read coding m is can.proper parts.connectivity).reads surface_place behind)
     ∙ surface-read coding m is can parts made more
 
 -- and alone
 pub stream-on-surface : (coding : Coding) (m : MeshParts) → IsMesh m → CanCodeSurface coding m → SurfaceSpelled coding m
     → assembled m.heads (tables_written coding m) (length m.faces) ≡ Ok (mesh_written coding m)
-    → stream (edgebreaker_bytes coding m) ≡ Ok (meaning_written coding m)
+    → stream_in (profile_for coding m) (edgebreaker_bytes coding m) ≡ Ok (meaning_written coding m)
 stream-on-surface coding m is can parts made =
-    ap (λ (bytes : List ℕ). stream bytes) (sym (append-nil (edgebreaker_bytes coding m))) ∙ stream-on-surface_before coding m is can parts made []
+    ap (λ (bytes : List ℕ). stream_in (profile_for coding m) bytes) (sym (append-nil (edgebreaker_bytes coding m))) ∙ stream-on-surface_before coding m is can parts made []

@@ -3,4 +3,4 @@ use Rattle.kd_points.proofs.Scanned.{IsScan}
 use Rattle.kd_points.proofs.points.append_point.Given as goal
 
 abbrev pub invariant-loop-component : goal.invariant-loop-component
-invariant-loop-component l = IsScan l.types (integer_at l.extents l.offsets) l.before l.fn.cells.items l.cells.items l.component l.outside
+invariant-loop-component l = IsScan l.row (integer_at l.extents l.offsets) l.before l.fn.cells.items l.cells.items l.component l.outside

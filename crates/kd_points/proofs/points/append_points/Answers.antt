@@ -32,10 +32,10 @@ loop-point-preserved c =
     let same : length offsets ≡ length extents = omega (arith, c.fill_offsets.auto.offsets, c.loop-point.invariant.1, c.requires.offsets, c.requires.extents) in
     let each : (j : ℕ) → j < length offsets → get_or offsets j 0 ≡ offset_in (axes_over extents) (key_at rows k) j =
     λ j low. c.fill_offsets.ensures j low ∙ ap (λ axes. offset_in axes (key_at rows k) j) c.requires.axes in
-    let row : get_or points k [] ≡ map (integer_at extents offsets) (range_with_len 0 (length c.args.types.now)) =
+    let row : get_or points k [] ≡ map (integer_at extents offsets) (range_with_len 0 (length c.args.row.now)) =
     get_or-map (row_within extents) rows k [] [] inside ∙ row-is extents offsets (key_at rows k) same each
     ∙ ap (λ n. map (integer_at extents offsets) (range_with_len 0 n)) c.requires.extents in (
-      scanned-next c.args.types.now points k c.loop-point.cells.items c.append_point.new.cells.items c.loop-point.outside c.in_ok-outside.outside (integer_at extents offsets)
+      scanned-next c.args.row.now points k c.loop-point.cells.items c.append_point.new.cells.items c.loop-point.outside c.in_ok-outside.outside (integer_at extents offsets)
           (omega (arith, inside, length-map rows (row_within extents))) row c.loop-point.invariant.0
           c.in_ok-outside.ensures.kept c.in_ok-outside.ensures.typed c.in_ok-outside.ensures.outside c.in_ok-outside.ensures.cells,
       omega (arith, c.fill_offsets.auto.offsets, c.loop-point.invariant.1),
@@ -45,5 +45,5 @@ pub returns : goal.returns
 returns c =
     let points : List (List ℤ) = map (row_within c.args.extents.now) c.args.keys.now.rows in
     let end : c.loop-point.point ≡ length points = omega (arith, length-map c.args.keys.now.rows (row_within c.args.extents.now)) in
-    let all = scanned-all c.args.types.now points c.loop-point.point c.loop-point.cells.items c.loop-point.outside end c.loop-point.invariant.0 in
+    let all = scanned-all c.args.row.now points c.loop-point.point c.loop-point.cells.items c.loop-point.outside end c.loop-point.invariant.0 in
     record { first = all.0; cells = all.1 }

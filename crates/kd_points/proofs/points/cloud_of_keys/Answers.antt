@@ -1,11 +1,15 @@
-use Rattle.std.proofs.Common.{◌≡◌, ◌<◌, ◌≤◌, List, ℤ, map, arith, sym, ◌∙◌, ap, subst, Ok, Err, None}
+use Rattle.std.proofs.Common.{◌≡◌, ◌<◌, ◌≤◌, List, ℤ, map, arith, sym, ◌∙◌, ap, subst, Ok, Err, None, IsTrue}
 use Rattle.drc_base.specs.Refusals.{Answers}
 use Rattle.attr_heads.specs.FirstFault.{answer_of}
-use Rattle.attr_heads.specs.Head.{types_of, width_of}
+use Rattle.attr_heads.specs.Head.{row_bounds, width_of}
 use Rattle.mesh_model.specs.Parts.{AreRows, CloudParts, range_fault, cloud_of}
 use Rattle.mesh_model.proofs.Made.{cloud_of-IsCloud, AreRows-cells_of, ArePoints-tests}
 use Rattle.kd_points.specs.Extents.{row_within}
 use Rattle.kd_points.specs.Meaning.{FirstOutside, cloud_of_keys}
+use Rattle.std.specs.List.{All}
+use Rattle.attr_heads.specs.declared.heads.Head.{Head}
+use Rattle.attr_heads.specs.Octahedra.{has_square_bits}
+use Rattle.kd_points.proofs.Headed.{squares_pass}
 use Rattle.kd_points.proofs.Clouded.{fit_cells, cloud_inside, cloud_outside}
 use Rattle.kd_points.proofs.points.cloud_of_keys.Goals as goal
 
@@ -14,9 +18,9 @@ returns-then-outside-width c =
     let h = c.args.header in
     let keys = c.args.keys.now.rows in
     let r = c.in_ok-cells.outside in
-    let first : FirstOutside (types_of h.heads) (map (row_within h.extents) keys) r =
-    subst (λ e. FirstOutside (types_of h.heads) (map (row_within e) keys) r) c.as_slice-2.ensures.items
-    (subst (λ l. FirstOutside (types_of l) (map (row_within c.as_slice-2.result.now) keys) r) c.as_slice.ensures.items c.in_ok-cells.ensures.first) in
+    let first : FirstOutside (row_bounds h.heads) (map (row_within h.extents) keys) r =
+    subst (λ e. FirstOutside (row_bounds h.heads) (map (row_within e) keys) r) c.as_slice-2.ensures.items
+    (subst (λ l. FirstOutside (row_bounds l) (map (row_within c.as_slice-2.result.now) keys) r) c.as_slice.ensures.items c.in_ok-cells.ensures.first) in
     let some : r < width_of h.heads = omega (arith, c.requires.len) in
     cloud_outside h keys r first some ∙ ap (λ f. Err f) (sym c.new.ensures)
 
@@ -56,3 +60,7 @@ returns c =
     ap (λ l. cloud_of l cells) c.into_vec.ensures ∙ ap (cloud_of h.heads) fit.cells_are ∙ cloud_of-IsCloud whole fit.are in
     subst (λ r. Answers (λ (x : CloudParts). x) (cloud_of_keys h keys) r) (sym (c.of_typed.ensures ∙ ap answer_of made))
     (cloud_inside h keys c.in_ok-cells.outside fit.first fit.all)
+
+pub points_within-requires-clause-squares : goal.points_within-requires-clause-squares
+points_within-requires-clause-squares c =
+    subst (λ l. All (λ (h : Head). IsTrue (has_square_bits h.octa)) l) (sym c.as_slice.ensures.items) (squares_pass c.args.header.heads c.requires.pass)

@@ -7,14 +7,14 @@ use Rattle.ply_mesh.proofs.bodies.read_rows.Goals as goal
 
 pub returns-in_err-take_row-clause-rows : goal.returns-in_err-take_row-clause-rows
 returns-in_err-take_row-clause-rows c =
-    let item = row_read c.args.dtypes.now in
+    let item = row_read c.args.columns.now in
     let h = c.loop-i.invariant.0 in
     let p = err_from_is_err_and c.from_residual-in_err-take_row.result c.from_residual-in_err-take_row.ensures.1 in
     rw (p.1, p.2) (first_refused item h.front c.args.count c.loop-i.i c.args.at (map tokens_of c.loop-i.lines) _ _ c.loop-i-test.true c.in_err-take_row.ensures.row h.whole)
 
 pub loop-i-preserved : goal.loop-i-preserved
 loop-i-preserved c =
-    let item = row_read c.args.dtypes.now in
+    let item = row_read c.args.columns.now in
     let due = items_from item c.args.count c.args.at (map tokens_of c.args.lines.now) in
     let t = c.in_ok-take_row.ensures.row in
     let shorter = ap length t.1 in (

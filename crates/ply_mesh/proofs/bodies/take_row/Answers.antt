@@ -10,7 +10,7 @@ pub returns-in-Some-clause-fewer : goal.returns-in-Some-clause-fewer
 returns-in-Some-clause-fewer c =
     let text = c.rest-text.result.now in
     let end = c.in-Some.end in
-    let ahead : IsRowAhead c.args.dtypes.now text end c.args.out.now.items c.row_ahead.new.out.items = search rules in
+    let ahead : IsRowAhead c.args.columns.now text end c.args.out.now.items c.row_ahead.new.out.items = search rules in
     let after = c.new.ensures.lines ∙ ap lines (take_rest text (end + 1)) in
     omega (arith, ap length (c.rest-text.ensures ∙ ahead.line.cut), ap length after)
 
@@ -18,7 +18,7 @@ pub returns-in-Some-clause-row : goal.returns-in-Some-clause-row
 returns-in-Some-clause-row c =
     let text = c.rest-text.result.now in
     let end = c.in-Some.end in
-    let ahead : IsRowAhead c.args.dtypes.now text end c.args.out.now.items c.row_ahead.new.out.items = search rules in
+    let ahead : IsRowAhead c.args.columns.now text end c.args.out.now.items c.row_ahead.new.out.items = search rules in
     let after = c.new.ensures.lines ∙ ap lines (take_rest text (end + 1)) in
     let cut : c.args.lines.now ≡ take end text ∷ c.new.result = c.rest-text.ensures ∙ ahead.line.cut ∙ ap (λ (ls : List (List ℕ)). take end text ∷ ls) (sym after) in
-    (take end text, cut, row_whole c.args.dtypes.now c.args.at (tokens_of (take end text)) c.args.out.now.items c.row_ahead.new.out.items ahead.row)
+    (take end text, cut, row_whole c.args.columns.now c.args.at (tokens_of (take end text)) c.args.out.now.items c.row_ahead.new.out.items ahead.row)

@@ -8,7 +8,7 @@ use Rattle.ply_text.proofs.header_reader.header_from.Given as goal
 -- the lines that are left, after what is declared so far, give the header
 abbrev pub invariant-loop-line : goal.invariant-loop-line
 invariant-loop-line l =
-    (header_from l.at (draft_of l.draft) (map tokens_of l.lines) ≡ header_from 2 no_draft (map tokens_of l.fn.lines))
+    (header_from l.profile.number l.at (draft_of l.draft) (map tokens_of l.lines) ≡ header_from l.profile.number 2 no_draft (map tokens_of l.fn.lines))
     × (l.at + length l.lines ≡ 2 + length l.fn.lines)
     × (2 ≤ l.at)
     × IsDraft (draft_of l.draft)

@@ -3,7 +3,7 @@ use Rattle.std.proofs.Common.{◌≡◌, suc, ◌++◌, ◌+◌, [], sym, ◌∙
 use Rattle.std.proofs.lemmas.Result.{err_from_is_err_and}
 use Rattle.std.proofs.lemmas.List.{nil_from_length}
 use Rattle.std.specs.Vec.Iter.{into_iter_items}
-use Rattle.attr_section.specs.Values.{values_in}
+use Rattle.attr_section.specs.Attributes.{values_in}
 use Rattle.attr_section.proofs.Columned.{AreColumns-append}
 use Rattle.drc_container.proofs.lemmas.reading.Decoders.{decoders_at-next, decoders_at-refuses, decoders_at-end, values_in-append}
 use Rattle.drc_container.proofs.reading.attributes.read_decoders.Goals as goal
@@ -26,6 +26,7 @@ loop-decoder-preserved c =
       AreColumns-append c.args.entries c.loop-decoder.heads.items c.read_decoder.new.h.heads c.loop-decoder.values.items c.in_ok-read.read.items
           c.loop-decoder.invariant.3 c.in_ok-read.ensures.columns,
       (let steps = c.in-Some.ensures.steps.0 in let all = rw steps at c.loop-decoder.invariant.4 in λ k d h k' d'. all (suc k) d (omega (arith, h)) k' d'),
+      (let steps = c.in-Some.ensures.steps.0 in let all = rw steps at c.loop-decoder.invariant.5 in λ k d h k' d'. all (suc k) d (omega (arith, h)) k' d'),
     )
 
 pub returns-clause-attributes : goal.returns-clause-attributes

@@ -7,6 +7,7 @@ use Rattle.drc_base.specs.declared.limits.TheConstants.{MAX_VALUES}
 use Rattle.mesh_model.specs.Assembled.{AreAttrTables}
 use Rattle.mesh_model.specs.Groups.{HasVertices}
 use Rattle.attr_heads.specs.HeadItems.{HeadPasses}
+use Rattle.attr_section.specs.Orders.{HasCoordinates}
 use Rattle.eb_section.specs.Connectivity.{meaning}
 use Rattle.drc_container.specs.reading.OnSurface.{HasSeams, no_attributes, surface_decoders_at, values_on}
 use Rattle.drc_container.specs.reading.AsRead.{classes_of, built_classes, group_on, tables_on}
@@ -29,5 +30,6 @@ invariant-loop-decoder l =
       orders : AreOrders l.surface.sides.table (built_classes l.surface.sides) l.orders;
       kept : IfSome l.kept (IsCutFrom l.surface.sides.table);
       heads : All (λ d. All HeadPasses d.heads) (into_iter_items l.decoder-iterator);
+      squares : All (λ d. All HasCoordinates d.heads) (into_iter_items l.decoder-iterator);
       seams : All (λ d. d.corner ≡ true → HasSeams (length l.surface.seams) d) (into_iter_items l.decoder-iterator);
     }

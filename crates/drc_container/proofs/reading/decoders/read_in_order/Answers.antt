@@ -31,12 +31,12 @@ pub returns-clause-columns : goal.returns-clause-columns
 returns-clause-columns c =
     let w : Ordered = ordered c.args.t.now c.args.labels.now.of_corner c.args.order.now in
     let is = kept (goal.at.returns-clause-columns c).In_ok-attributes in
-    let read = decoder-read c.args.profile.number _ c.args.decoder c.len-entries.result c.args.spent.now c.requires.spent c.requires.heads c.args.c.now _ c.in_ok-values.ensures.values in
+    let read = decoder-read c.args.profile.number _ _ c.args.decoder c.len-entries.result c.args.spent.now c.requires.spent c.requires.squares c.args.c.now _ c.in_ok-values.ensures.values in
     let each = entries-by c.args.t.now.faces c.args.labels.now.of_corner c.args.order.now c.requires.order.over in
     let within : All (λ e. e < c.len-entries.result) w.entries =
     subst (λ n. All (λ e. e < n) w.entries) (sym c.len-entries.ensures) each.1 in
     subst (λ (p : SurfaceAttributes). AreAttrTables (3 * c.args.t.now.faces) p.heads p.tables) (sym is)
-    (columns-tables (3 * c.args.t.now.faces) c.len-entries.result w.entries each.0 within c.read_decoder.new.h.heads c.in_ok-values.values.items read.typed)
+    (columns-tables (3 * c.args.t.now.faces) c.len-entries.result w.entries each.0 within c.read_decoder.new.h.heads c.in_ok-values.values.items read)
 
 pub returns-clause-vertices : goal.returns-clause-vertices
 returns-clause-vertices c =

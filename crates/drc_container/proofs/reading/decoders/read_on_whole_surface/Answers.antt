@@ -6,6 +6,7 @@ use Rattle.corner_table.specs.Table.{Table, gluing_of}
 use Rattle.mesh_model.specs.Assembled.{AreAttrTables}
 use Rattle.mesh_model.specs.Groups.{GroupParts, tables_of, HasVertices}
 use Rattle.drc_container.specs.declared.reading.surface_attributes.DecoderRead.{DecoderRead}
+use Rattle.attr_section.specs.TablePositions.{read_in}
 use Rattle.drc_container.specs.reading.OnSurface.{ordered_by, values_on, decoder_on}
 use Rattle.drc_container.specs.reading.AsRead.{built_classes, group_on, decoder_read_on}
 use Rattle.drc_container.specs.surface.MadeOrders.{AreOrders}
@@ -24,7 +25,7 @@ returns-clause-item c =
     let is = whole (goal.at.returns-clause-item c).After-read_on_table in
     let classes = built_classes c.args.sides.now in
     let d = c.args.decoder in
-    subst (λ (t : Table). Gives (decoder_read_on classes) (decoder_on (profile_numbered c.args.profile.number) (ordered_by d.degree t.faces (gluing_of t)) d c.args.spent.now c.args.c.now) c.read_on_table.new.c c.read_on_table.result)
+    subst (λ (t : Table). Gives (decoder_read_on classes) (decoder_on (profile_numbered c.args.profile.number) (ordered_by d.degree t.faces (gluing_of t)) (read_in c.args.found) d c.args.spent.now c.args.c.now) c.read_on_table.new.c c.read_on_table.result)
     c.table-table.ensures
     (gives-whole classes c.classes-labels.result.now.of_corner _ c.read_on_table.new.c c.read_on_table.result is c.read_on_table.ensures.whole c.read_on_table.ensures.item)
 

@@ -29,7 +29,7 @@ loop-head-preserved c =
     let h = c.head-item.result in
     let has : k < length heads = subst (λ hs. k < length hs) c.heads-head-items.ensures.heads c.loop-head-test.true in
     let is : h ≡ get_or heads k h = c.head-item.is ∙ ap (λ hs. get_or hs k h) c.heads-head-items.ensures.heads in (
-      rw (c.in_ok-push.ensures.items, c.predicted_column.ensures)
+      rw (c.in_ok-push.ensures.items, c.values_asked.ensures)
           (values-next _ heads points k c.loop-head.start h c.in_ok-column.column.items c.loop-head.values.items _ c.loop-head.invariant.0 has is c.in_ok-column.ensures),
       width-next heads k c.loop-head.start h c.loop-head.invariant.1 has is,
     )

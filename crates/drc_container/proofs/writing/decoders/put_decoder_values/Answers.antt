@@ -1,5 +1,6 @@
 use Rattle.std.proofs.Common.{◌≡◌, ◌++◌, Some, length, sym, ap, ◌∙◌, subst, arith}
 use Rattle.corner_table.specs.Ordered.{Ordered}
+use Rattle.attr_section.specs.TablePositions.{read_in}
 use Rattle.attr_section.specs.Written.{DecoderValuesPass, HaveEntries, decoder_values_bytes}
 use Rattle.drc_container.specs.writing.WrittenOnSurface.{surface_order}
 use Rattle.drc_container.specs.writing.Encoded.{AreReadAgain}
@@ -29,10 +30,10 @@ put_values_over-requires-clause-entries c =
 pub returns-clause-bytes : goal.returns-clause-bytes
 returns-clause-bytes c =
     c.in_ok-put_values_over.ensures.bytes
-    ∙ ap (λ (w : Ordered). c.args.out.now.items ++ decoder_values_bytes c.args.coding.now.plain (Some w) c.args.decoder.now.heads c.args.values.now)
+    ∙ ap (λ (w : Ordered). c.args.out.now.items ++ decoder_values_bytes c.args.coding.now.plain (Some w) (read_in c.args.found) c.args.decoder.now.heads c.args.values.now)
     (is-walk (goal.at.returns-clause-bytes c).After-surface_at-surface)
 
 pub returns-clause-again : goal.returns-clause-again
 returns-clause-again c =
-    subst (λ (w : Ordered). AreReadAgain c.args.coding.now.plain w c.args.decoder.now c.args.values.now)
-    (is-walk (goal.at.returns-clause-again c).After-surface_at-surface) c.in_ok-put_values_over.ensures.again
+    λ n since. subst (λ (w : Ordered). AreReadAgain n c.args.coding.now.plain w (read_in c.args.found) c.args.decoder.now c.args.values.now)
+    (is-walk (goal.at.returns-clause-again c).After-surface_at-surface) (c.in_ok-put_values_over.ensures.again n since)

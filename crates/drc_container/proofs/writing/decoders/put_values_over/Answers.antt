@@ -11,4 +11,4 @@ returns-clause-bytes c = c.in_ok-write_decoder.ensures.bytes
 
 pub returns-clause-again : goal.returns-clause-again
 returns-clause-again c =
-    record { reads = λ spent place rest few. c.in_ok-write_decoder.ensures.again c.args.surface.now.few_flags _ spent place rest c.requires.entries few }
+    λ n since. record { reads = λ spent place rest few. c.in_ok-write_decoder.ensures.again c.args.surface.now.few_flags n _ _ spent place rest since c.requires.entries few }

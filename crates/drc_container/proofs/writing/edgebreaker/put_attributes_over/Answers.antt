@@ -19,7 +19,7 @@ returns-in_err-values-clause-answer c =
     (refuses-alike (values_fault coding d) (coded_values coding d) (c.args.out.now.items ++ (decoder_heads_bytes coding d ++ values_bytes_on coding d)) c.in_err-values.field-0.0 c.in_err-values.ensures)
 
 -- the values can be coded
-can : (c : In_ok-values) → CanCode c.args.coding.now.predict (coded_values c.args.coding.now (glued_on c.args.s.now))
+can : (c : In_ok-values) → CanCode (glued_on c.args.s.now).mesh.heads (coded_values c.args.coding.now (glued_on c.args.s.now))
 can c = values-can c.args.coding.now (glued_on c.args.s.now) c.in_ok-values.values.items c.in_ok-values.ensures
 
 pub write_attributes-requires-clause-can : goal.write_attributes-requires-clause-can

@@ -1,12 +1,12 @@
 -- The copy is the geometry.
-use Rattle.std.proofs.Common.{◌≡◌, None, Ok, false, sym, subst}
+use Rattle.std.proofs.Common.{◌≡◌, None, false, sym, subst}
 use Rattle.std.specs.Prelude.{IfOk}
 use Rattle.drc_base.specs.Refusals.{Answers}
 use Rattle.mesh_model.specs.declared.geometries.Geometry.{Geometry}
 use Rattle.drc_container.specs.choice.Choice.{method_of, is_sequential}
 use Rattle.drc_container.specs.choice.Refused.{early_fault}
 use Rattle.drc_container.specs.writing.Encoded.{encoding_due, Means}
-use Rattle.drc_container.specs.writing.Layout.{layout_of, layout_chosen}
+use Rattle.drc_container.specs.writing.Layout.{IsLaidOut}
 use Rattle.drc_container.proofs.writing.encoding.encode_copied.Goals as goal
 
 pub encode_on_surface-requires-clause-early : goal.encode_on_surface-requires-clause-early
@@ -29,5 +29,5 @@ returns-clause-means c =
 
 pub returns-clause-layout : goal.returns-clause-layout
 returns-clause-layout c =
-    subst (λ (g : Geometry). IfOk c.encode_on_surface.result (λ r. layout_of r.0.items ≡ Ok (layout_chosen g c.args.choice.now)))
+    subst (λ (g : Geometry). IfOk c.encode_on_surface.result (λ r. IsLaidOut g c.args.choice.now r.0.items))
     c.in_ok-copy.ensures c.encode_on_surface.ensures.layout

@@ -23,4 +23,4 @@ pub returns-clause-layout : goal.returns-clause-layout
 returns-clause-layout c =
     rw (bytes-are (goal.at.returns-clause-layout c).In_ok-put_stream)
     (layout-written c.args.g.now c.args.choice.now c.requires.can c.point_count-count.ensures.geometry c.in_ok-put_stream.ensures.connectivity c.in_ok-put_stream.ensures.attributes
-    (columns_of_geometry c.args.g.now c.args.choice.now c.requires.can c.point_count-count.ensures.sound).each_head)
+    (columns_of_geometry c.args.g.now c.args.choice.now c.requires.can c.point_count-count.ensures.sound))

@@ -4,10 +4,11 @@ use Rattle.attr_heads.specs.declared.heads.Head.{Head}
 use Rattle.attr_heads.specs.Head.{width_of}
 use Rattle.attr_heads.proofs.Widths.{width_of-bounds}
 use Rattle.attr_section.specs.declared.values.Values.{Values}
+use Rattle.drc_container.specs.choice.Predicts.{asked}
 use Rattle.drc_container.specs.writing.WrittenOnSurface.{coded_values, coded_by}
 use Rattle.drc_container.specs.surface.AttributeSurfaces.{glued_on}
 use Rattle.drc_container.proofs.lemmas.surface.AttributeSurfaces.{cut-each}
-use Rattle.drc_container.proofs.lemmas.writing.SurfaceParts.{columns-more, kept-corners, kept-values, one-width, next-start, part-within}
+use Rattle.drc_container.proofs.lemmas.writing.SurfaceParts.{asked-of, columns-more, kept-corners, kept-values, one-width, next-start, part-within}
 use Rattle.drc_container.proofs.writing.surface_values.columns_on.Goals.{After-as_slice-corners}
 use Rattle.drc_container.proofs.writing.surface_values.columns_on.Goals as goal
 
@@ -59,12 +60,13 @@ loop-attr-preserved c =
     let s = c.args.s.now in
     let k = c.loop-attr.attr in
     let n = at_head (goal.at.loop-attr-preserved c).After-as_slice-corners in
-    let values = kept-values coding s k c.surface_at.result.now c.as_slice-corners.result.now c.in_ok-column.column.items c.requires n.has c.surface_at.ensures c.as_slice-corners.ensures.items c.in_ok-column.ensures in
+    let head = ap (asked coding.predict) n.named ∙ sym (asked-of coding (glued_on s) k c.head-item.result n.has) in
+    let values = kept-values coding s k c.surface_at.result.now c.as_slice-corners.result.now c.in_ok-column.column.items (asked coding.predict c.head-item.result) c.requires n.has c.surface_at.ensures c.as_slice-corners.ensures.items c.in_ok-column.ensures head in
     let more = columns-more coding (glued_on s) k in
     record {
       values =
           c.in_ok-push.ensures.items
-          ∙ ap (λ (v : Values). c.loop-attr.values.items ++ v ∷ []) (c.predicted_column.ensures ∙ values)
+          ∙ ap (λ (v : Values). c.loop-attr.values.items ++ v ∷ []) (c.values_asked.ensures ∙ values)
           ∙ ap (λ (vs : List Values). vs ++ coded_by coding (glued_on s) k ∷ []) c.loop-attr.invariant.values
           ∙ sym more;
       start = next-start s.mesh.heads k c.loop-attr.start c.head-item.result n.has n.named c.loop-attr.invariant.start;

@@ -3,7 +3,7 @@ use Rattle.std.specs.List.{range_with_len}
 use Rattle.std.specs.Prelude.{map}
 use Rattle.attr_heads.specs.declared.heads.Head.{Head}
 use Rattle.attr_heads.proofs.Passing.{heads_say}
-use Rattle.attr_section.specs.Values.{values_in}
+use Rattle.attr_section.specs.Attributes.{values_in}
 use Rattle.drc_container.specs.writing.WrittenOnSurface.{coded_values, coded_by}
 use Rattle.drc_container.specs.surface.AttributeSurfaces.{glued_on}
 use Rattle.drc_container.proofs.lemmas.surface.AttributeSurfaces.{cut-each}

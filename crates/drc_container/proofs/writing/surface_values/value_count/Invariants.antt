@@ -1,6 +1,6 @@
 use Rattle.std.proofs.Common.{◌≡◌, ◌*◌, ◌^◌, ◌≤◌, map}
 use Rattle.std.specs.List.{range_with_len}
-use Rattle.attr_section.specs.Values.{values_in}
+use Rattle.attr_section.specs.Attributes.{values_in}
 use Rattle.drc_container.specs.writing.WrittenOnSurface.{coded_by}
 use Rattle.drc_container.specs.surface.AttributeSurfaces.{glued_on}
 use Rattle.drc_container.proofs.writing.surface_values.value_count.Given as goal

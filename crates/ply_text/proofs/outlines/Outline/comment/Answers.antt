@@ -5,5 +5,5 @@ use Rattle.ply_text.proofs.outlines.Outline.comment.Goals as goal
 
 pub returns-then-is_form : goal.returns-then-is_form
 returns-then-is_form c =
-    comment_follows c.args.at (tokens_of c.args.line.now) c.args.self.now c.attribute.new.self c.attribute.result
+    comment_follows c.args.profile.number c.args.at (tokens_of c.args.line.now) c.args.self.now c.attribute.new.self c.attribute.result
     (sym c.is_form.ensures ∙ c.if-is_form.true) c.attribute.ensures

@@ -1,5 +1,0 @@
-use Rattle.entropy_laws.proofs.Again.{symbols-again}
-use Rattle.entropy_laws.proofs.laws.symbol_blocks_are_read.Goals as goal
-
-pub returns : goal.returns
-returns c = λ values comps some divides few all. symbols-again values comps divides few all

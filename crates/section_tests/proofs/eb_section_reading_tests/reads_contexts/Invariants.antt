@@ -1,5 +1,0 @@
--- The call counts in the ledger of its own blank.
-use Rattle.section_tests.proofs.eb_section_reading_tests.reads_contexts.Given as goal
-
-abbrev pub ghosts-reads : goal.ghosts-reads
-ghosts-reads g a = record { name = a.blank.name; parts = a.blank.parts }

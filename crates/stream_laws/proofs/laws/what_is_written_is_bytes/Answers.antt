@@ -1,5 +1,0 @@
-use Rattle.stream_laws.proofs.bytes.Streams.{written-bytes}
-use Rattle.stream_laws.proofs.laws.what_is_written_is_bytes.Goals as goal
-
-pub returns : goal.returns
-returns c = written-bytes

@@ -1,5 +1,0 @@
--- The call counts in the ledger of its own blank.
-use Rattle.surface_tests.proofs.corner_table_tests.is_told.Given as goal
-
-abbrev pub ghosts-told : goal.ghosts-told
-ghosts-told g a = record { name = a.blank.name; parts = a.blank.parts }

@@ -1,5 +1,0 @@
--- The call counts in the ledger of its blank.
-use Rattle.surface_tests.proofs.pairing_tests.vertices_of.Given as goal
-
-abbrev pub ghosts-vertices_by : goal.ghosts-vertices_by
-ghosts-vertices_by a = record { name = a.blank.name; parts = a.blank.parts }

@@ -1,6 +1,0 @@
-use Rattle.std.proofs.Common.{◌≤ℤ◌, take}
-use Rattle.std.specs.List.{All}
-use Rattle.surface_tests.proofs.predict_surface_tests.all_within.Given as goal
-
-abbrev pub invariant-loop-i : goal.invariant-loop-i
-invariant-loop-i l = All (λ x. (l.low ≤ℤ x) × (x ≤ℤ l.high)) (take l.i l.v)

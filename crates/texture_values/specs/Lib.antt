@@ -1,0 +1,5 @@
+pub mod Pairs
+pub mod Foretold
+pub mod Restored
+pub mod Chosen
+pub mod Corrected
