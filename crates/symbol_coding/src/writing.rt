@@ -88,7 +88,12 @@ fn put_group(writer: &mut BitWriter, width: u32, group: &[u32]) -> Result<(), Me
 }
 
 /// The bits of the values, each in as many as its group's bit length, in bytes.
-pub fn put_values(alloc: Global, values: &[u32], comps: u32, lengths: &[u32]) -> Result<Vec<u8>, Memory>
+pub fn put_values(
+    alloc: Global,
+    values: &[u32],
+    comps: u32,
+    lengths: &[u32],
+) -> Result<Vec<u8>, Memory>
     requires comps { 0 < comps }
     requires len { length lengths.now * comps ≡ length values.now }
     requires widths { HasWidths (widths comps lengths.now) values.now }
